@@ -1,0 +1,4 @@
+pub mod Narrow
+pub mod Letters
+pub mod Root
+pub mod Pure

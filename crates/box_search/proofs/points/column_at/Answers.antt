@@ -1,0 +1,24 @@
+use Rattle.std.proofs.Common.{◌≡◌, ◌^◌, ◌<◌, unsigned_abs, pos, refl, arith, ap, ◌∙◌, sym, to_z, of_z}
+use Rattle.std.specs.Int.{w64, w128}
+use Rattle.std.proofs.lemmas.Int.{ints}
+use Rattle.log_laws.specs.Whole.{ceil_over}
+use Rattle.log_laws.proofs.Wide.{back}
+use Rattle.case_types.specs.Numbers.{Numbers}
+use Rattle.pr_params.proofs.One.{numbers_one}
+use Rattle.box_search.proofs.points.column_at.Goals as goal
+
+pub returns-clause-column : goal.returns-clause-column
+returns-clause-column c =
+    let up = c.energy_up-up.result in
+    let wide = back up (omega (arith, c.energy_up-up.ensures.small)) in
+    let small : unsigned_abs up < 2 ^ 49 = rw (c.unsigned_abs.ensures.value, wide) at c.if-unsigned_abs.false in
+    let up_read : to_z w64 (of_z w64 (to_z w128 (of_z w128 up))) ≡ up = omega (arith, ints, small) in
+    let cost_read : to_z w64 (of_z w64 (to_z w128 (of_z w128 c.cost_of.result))) ≡ c.cost_of.result = omega (arith, ints, c.cost_of.ensures.small) in
+    let cost : c.cost_of.result ≡ ceil_over up (2 ^ 10) = rw wide at c.cost_of.ensures.value in
+    let count = ap (λ (p : Numbers). p.count) (numbers_one c.args.params.now.case c.requires.one) in
+    record {
+      point = record { whole = rw count refl; not_empty = c.requires.some; not_full = c.requires.inside };
+      up = up_read ∙ c.energy_up-up.ensures.value;
+      small = rw up_read small;
+      cost = cost_read ∙ (rw up_read cost);
+    }

@@ -1,0 +1,195 @@
+use Rattle.std.proofs.Common.{◌≡◌, ◌≤◌, ◌<◌, ◌+◌, ◌-◌, ◌*◌, ◌^◌, [], ◌∷◌, length, ℤ, pos, neg_ℤ, ◌<ℤ◌, unsigned_abs, to_z, of_z, ap, sym, refl, ◌∙◌, inl, inr, arith}
+use Rattle.std.specs.Int.{w128}
+use Rattle.std.proofs.lemmas.Int.{ints}
+use Rattle.log_laws.proofs.Wide.{back}
+use Rattle.case_types.specs.Cells.{region_of, root_region, plain_low, edge_to_halve, lower_half, upper_half}
+use Rattle.case_types.specs.Numbers.{numbers_of}
+use Rattle.pr_params.proofs.Alpha.{abs_within}
+use Rattle.box_search.specs.Written.{WritesSome}
+use Rattle.box_search.proofs.Letters.{no_more, one_more, then_more, writes}
+use Rattle.box_search.proofs.Narrow.{narrow_root, narrow_rest, narrow_halves}
+use Rattle.box_search.proofs.Pure.{count_is, packing_named, not_one}
+use Rattle.box_search.proofs.Root.{begun_rest, root_open}
+use Rattle.box_search.proofs.searching.search.Goals as goal
+use Rattle.box_search.proofs.searching.search.Goals.{Else-here-delta, After-cell-else-is_spent-2-1}
+
+-- ---- the cell in hand isn't cleared
+here_low : (c : Else-here-delta) → c.low_plain-here.result <ℤ neg_ℤ c.args.delta
+here_low c = omega (arith, ints, c.if-here-delta.false, c.requires.delta_low, c.requires.delta_high, c.low_plain-here.ensures.small)
+
+delta_read : (c : Else-here-delta) → to_z w128 (of_z w128 c.args.delta) ≡ c.args.delta
+delta_read c = back c.args.delta (omega (arith, ints, c.requires.delta_low, c.requires.delta_high))
+
+not_clear : (c : Else-here-delta) → plain_low (numbers_of c.args.params.now.case) c.args.plane.now.lam (region_of c.in-Some.cell) <ℤ neg_ℤ c.args.delta
+not_clear c = rw (← c.low_plain-here.ensures.value) (here_low c)
+
+root_not_clear : (c : Else-here-delta) →
+    plain_low (numbers_of c.args.params.now.case) c.args.plane.now.lam (root_region (numbers_of c.args.params.now.case).count) <ℤ neg_ℤ c.args.delta
+root_not_clear c =
+    root_open (numbers_of c.args.params.now.case) c.args.plane.now.lam c.args.delta (region_of c.in-Some.cell) c.loop-cell.stack c.pop.new.self
+    c.in-Some.ensures.some (rw (delta_read c) at c.loop-cell.invariant.begun) (not_clear c)
+
+-- ---- the loop
+pub loop-cell-init : goal.loop-cell-init
+loop-cell-init c =
+    let n : length c.new-stack.result ≡ 1 = ap length c.new-stack.ensures in
+    let none : 2 * (c.args.units.now.spent - c.args.units.now.spent) + 1 - 1 ≡ 0 = omega arith in
+    let first : c.new-stack.result ≡ root_region (numbers_of c.args.params.now.case).count ∷ [] = rw (count_is c.args.params.now.case) c.new-stack.ensures in
+    record {
+      narrow = rw (c.new-stack.ensures, c.requires.one) narrow_root;
+      begun = inl first;
+      low = omega (arith, ints, c.requires.delta_low, c.requires.delta_high);
+      high = omega (arith, ints);
+      budget = refl;
+      spent = omega arith;
+      letters = rw (n, none) (no_more c.args.letters.now);
+      counted = omega (arith, n);
+    }
+
+pub loop-cell-preserved-then-here-delta : goal.loop-cell-preserved-then-here-delta
+loop-cell-preserved-then-here-delta c =
+    let old = c.loop-cell.invariant in
+    let e = c.in-Some.ensures.some in
+    let n : length c.loop-cell.stack ≡ length c.pop.new.self + 1 = ap length e ∙ omega arith in
+    let spent = c.loop-cell.units.spent - c.args.units.now.spent in
+    let more = one_more c.args.letters.now c.loop-cell.letters c.push.new.self (2 * spent + 1 - length c.loop-cell.stack) 112 old.letters c.push.ensures.items c.push.ensures.room in
+    let count : 2 * spent + 1 - length c.loop-cell.stack + 1 ≡ 2 * spent + 1 - length c.pop.new.self = omega (arith, n, old.counted) in
+    let d = neg_ℤ c.args.delta in
+    let either = c.smaller-low.ensures.either d (omega (arith, ints, old.low))
+    (omega (arith, ints, c.if-here-delta.true, c.requires.delta_low, c.requires.delta_high, c.low_plain-here.ensures.small)) in
+    record {
+      narrow = narrow_rest (region_of c.in-Some.cell) c.pop.new.self (rw e at old.narrow);
+      begun = begun_rest (numbers_of c.args.params.now.case) c.args.plane.now.lam (to_z w128 (of_z w128 c.args.delta)) (region_of c.in-Some.cell) c.loop-cell.stack c.pop.new.self e old.begun;
+      low = omega (arith, ints, either);
+      high = omega (arith, ints, old.high, c.smaller-low.ensures.first);
+      budget = old.budget;
+      spent = old.spent;
+      letters = rw count at more;
+      counted = omega (arith, n, old.counted);
+    }
+
+pub is_unit-requires : goal.is_unit-requires
+is_unit-requires c = c.edge_to_halve.ensures ∙ (rw c.requires.one (packing_named (region_of c.in-Some.cell)))
+
+wide : (c : After-cell-else-is_spent-2-1) → 2 ≤ c.in-Some.cell.yhi - c.in-Some.cell.ylo
+wide c =
+    let edge : c.edge_to_halve.result ≡ 3 = c.edge_to_halve.ensures ∙ (rw c.requires.one (packing_named (region_of c.in-Some.cell))) in
+    let unit = rw edge at c.is_unit.ensures.unit in
+    not_one c.in-Some.cell.ylo c.in-Some.cell.yhi c.in-Some.cell.thick (λ k. let t = unit.1 k in cc)
+
+pub push_halves-requires-clause-wide : goal.push_halves-requires-clause-wide
+push_halves-requires-clause-wide c = wide c
+
+pub push_halves-requires-clause-room : goal.push_halves-requires-clause-room
+push_halves-requires-clause-room c =
+    let k = narrow_halves (region_of c.in-Some.cell) c.pop.new.self (wide c) (rw c.in-Some.ensures.some at c.loop-cell.invariant.narrow) in
+    omega (arith, k.0)
+
+pub loop-cell-preserved : goal.loop-cell-preserved
+loop-cell-preserved c =
+    let old = c.loop-cell.invariant in
+    let e = c.in-Some.ensures.some in
+    let n : length c.loop-cell.stack ≡ length c.pop.new.self + 1 = ap length e ∙ omega arith in
+    let m : length c.push_halves.new.self ≡ length c.pop.new.self + 2 = ap length c.push_halves.ensures ∙ omega arith in
+    let here = goal.at.loop-cell-preserved c in
+    let spent = c.loop-cell.units.spent - c.args.units.now.spent in
+    let next = c.spend-else-is_spent-2.ensures.spent in
+    let more = one_more c.args.letters.now c.loop-cell.letters c.push-else-is_spent-2.new.self (2 * spent + 1 - length c.loop-cell.stack) 121 old.letters
+    c.push-else-is_spent-2.ensures.items c.push-else-is_spent-2.ensures.room in
+    let count : 2 * spent + 1 - length c.loop-cell.stack + 1 ≡ 2 * (c.spend-else-is_spent-2.new.self.spent - c.args.units.now.spent) + 1 - length c.push_halves.new.self =
+    omega (arith, n, m, next, old.spent, old.counted) in
+    let narrow = narrow_halves (region_of c.in-Some.cell) c.pop.new.self (wide here.After-cell-else-is_spent-2-1) (rw e at old.narrow) in
+    record {
+      narrow = rw c.push_halves.ensures narrow.1;
+      begun = rw (delta_read here.Else-here-delta) (inr (inr (root_not_clear here.Else-here-delta)));
+      low = old.low;
+      high = old.high;
+      budget = c.spend-else-is_spent-2.ensures.budget ∙ old.budget;
+      spent = omega (arith, next, old.spent);
+      letters = rw count at more;
+      counted = omega (arith, n, m, next, old.spent, old.counted);
+    }
+
+pub close-low-requires-clause-small : goal.close-low-requires-clause-small
+close-low-requires-clause-small c =
+    let above = c.smaller.ensures.either (neg_ℤ (pos (2 ^ 107))) (omega (arith, ints, c.loop-cell.invariant.low, c.requires.delta_high))
+    (omega (arith, ints, c.low_plain-here.ensures.small)) in
+    let size = abs_within c.smaller.result (2 ^ 107) above (omega (arith, ints, c.smaller.ensures.second, c.low_plain-here.ensures.small)) in
+    rw (back c.smaller.result (omega (arith, size))) size
+
+pub close-low-requires-then-is_unit-clause-small : goal.close-low-requires-then-is_unit-clause-small
+close-low-requires-then-is_unit-clause-small c =
+    let above = c.smaller-then-is_unit.ensures.either (neg_ℤ (pos (2 ^ 107))) (omega (arith, ints, c.loop-cell.invariant.low, c.requires.delta_high))
+    (omega (arith, ints, c.low_plain-here.ensures.small)) in
+    let size = abs_within c.smaller-then-is_unit.result (2 ^ 107) above (omega (arith, ints, c.smaller-then-is_unit.ensures.second, c.low_plain-here.ensures.small)) in
+    rw (back c.smaller-then-is_unit.result (omega (arith, size))) size
+
+pub close-low-requires-then-is_spent-2-clause-small : goal.close-low-requires-then-is_spent-2-clause-small
+close-low-requires-then-is_spent-2-clause-small c =
+    let above = c.smaller-then-is_spent-2.ensures.either (neg_ℤ (pos (2 ^ 107))) (omega (arith, ints, c.loop-cell.invariant.low, c.requires.delta_high))
+    (omega (arith, ints, c.low_plain-here.ensures.small)) in
+    let size = abs_within c.smaller-then-is_spent-2.result (2 ^ 107) above (omega (arith, ints, c.smaller-then-is_spent-2.ensures.second, c.low_plain-here.ensures.small)) in
+    rw (back c.smaller-then-is_spent-2.result (omega (arith, size))) size
+
+-- ---- the ends
+pub returns-then-is_spent-clause-root : goal.returns-then-is_spent-clause-root
+returns-then-is_spent-clause-root c = root_not_clear (goal.at.returns-then-is_spent-clause-root c).Else-here-delta
+
+pub returns-in-Some-refuting-clause-root : goal.returns-in-Some-refuting-clause-root
+returns-in-Some-refuting-clause-root c = root_not_clear (goal.at.returns-in-Some-refuting-clause-root c).Else-here-delta
+
+pub returns-then-is_unit-clause-root : goal.returns-then-is_unit-clause-root
+returns-then-is_unit-clause-root c = root_not_clear (goal.at.returns-then-is_unit-clause-root c).Else-here-delta
+
+pub returns-then-is_spent-2-clause-root : goal.returns-then-is_spent-2-clause-root
+returns-then-is_spent-2-clause-root c = root_not_clear (goal.at.returns-then-is_spent-2-clause-root c).Else-here-delta
+
+pub returns-then-is_spent-clause-found : goal.returns-then-is_spent-clause-found
+returns-then-is_spent-clause-found c =
+    let here = (goal.at.returns-then-is_spent-clause-found c).Else-here-delta in
+    (omega (arith, ints, here_low here, c.smaller.ensures.second, c.close-low.ensures.low, c.requires.delta_low, c.requires.delta_high), c.is_spent.ensures.0 c.if-is_spent.true)
+
+pub returns-then-is_unit-clause-found : goal.returns-then-is_unit-clause-found
+returns-then-is_unit-clause-found c =
+    let here = (goal.at.returns-then-is_unit-clause-found c).Else-here-delta in (
+      omega (arith, ints, here_low here, c.smaller-then-is_unit.ensures.second, c.close-low-then-is_unit.ensures.low, c.requires.delta_low, c.requires.delta_high),
+      record { one_unit = rw (count_is c.args.params.now.case, ← c.edge_to_halve.ensures) (c.is_unit.ensures.unit.0 c.if-is_unit.true); not_clear = not_clear here },
+    )
+
+pub returns-then-is_spent-2-clause-found : goal.returns-then-is_spent-2-clause-found
+returns-then-is_spent-2-clause-found c =
+    let here = (goal.at.returns-then-is_spent-2-clause-found c).Else-here-delta in (
+      omega (arith, ints, here_low here, c.smaller-then-is_spent-2.ensures.second, c.close-low-then-is_spent-2.ensures.low, c.requires.delta_low, c.requires.delta_high),
+      c.is_spent-else-is_unit.ensures.0 c.if-is_spent-2.true,
+    )
+
+pub returns-then-is_spent-clause-letters : goal.returns-then-is_spent-clause-letters
+returns-then-is_spent-clause-letters c =
+    let old = c.loop-cell.invariant in
+    let n : length c.loop-cell.stack ≡ length c.pop.new.self + 1 = ap length c.in-Some.ensures.some ∙ omega arith in
+    let spent = c.loop-cell.units.spent - c.args.units.now.spent in
+    let all = then_more c.args.letters.now c.loop-cell.letters c.close-low.new.letters (2 * spent + 1 - length c.loop-cell.stack) (length c.pop.new.self + 1) old.letters c.close-low.ensures.letters in
+    writes c.args.letters.now c.close-low.new.letters (2 * spent + 1 - length c.loop-cell.stack + (length c.pop.new.self + 1)) spent all (omega (arith, n, old.counted))
+
+pub returns-then-is_unit-clause-letters : goal.returns-then-is_unit-clause-letters
+returns-then-is_unit-clause-letters c =
+    let old = c.loop-cell.invariant in
+    let n : length c.loop-cell.stack ≡ length c.pop.new.self + 1 = ap length c.in-Some.ensures.some ∙ omega arith in
+    let spent = c.loop-cell.units.spent - c.args.units.now.spent in
+    let all = then_more c.args.letters.now c.loop-cell.letters c.close-low-then-is_unit.new.letters (2 * spent + 1 - length c.loop-cell.stack) (length c.pop.new.self + 1) old.letters c.close-low-then-is_unit.ensures.letters in
+    writes c.args.letters.now c.close-low-then-is_unit.new.letters (2 * spent + 1 - length c.loop-cell.stack + (length c.pop.new.self + 1)) spent all (omega (arith, n, old.counted))
+
+pub returns-then-is_spent-2-clause-letters : goal.returns-then-is_spent-2-clause-letters
+returns-then-is_spent-2-clause-letters c =
+    let old = c.loop-cell.invariant in
+    let n : length c.loop-cell.stack ≡ length c.pop.new.self + 1 = ap length c.in-Some.ensures.some ∙ omega arith in
+    let spent = c.loop-cell.units.spent - c.args.units.now.spent in
+    let all = then_more c.args.letters.now c.loop-cell.letters c.close-low-then-is_spent-2.new.letters (2 * spent + 1 - length c.loop-cell.stack) (length c.pop.new.self + 1) old.letters c.close-low-then-is_spent-2.ensures.letters in
+    writes c.args.letters.now c.close-low-then-is_spent-2.new.letters (2 * spent + 1 - length c.loop-cell.stack + (length c.pop.new.self + 1)) spent all (omega (arith, n, old.counted))
+
+pub returns-in-Some-refuting-clause-letters : goal.returns-in-Some-refuting-clause-letters
+returns-in-Some-refuting-clause-letters c =
+    let old = c.loop-cell.invariant in
+    let spent = c.loop-cell.units.spent - c.args.units.now.spent in
+    writes c.args.letters.now c.loop-cell.letters (2 * spent + 1 - length c.loop-cell.stack) (c.spend.new.self.spent - c.args.units.now.spent) old.letters
+    (omega (arith, c.spend.ensures.spent, old.spent))

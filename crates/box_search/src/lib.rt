@@ -1,0 +1,11 @@
+//! Branch and bound under one tangent plane.
+#![tactic(auto)]
+
+mod found;
+mod points;
+mod searching;
+mod stack;
+
+pub use found::Found;
+pub use points::column_at;
+pub use searching::search;

@@ -1,0 +1,118 @@
+//! The search.
+
+ghost use Rattle.std.specs.Prelude.{◌≡◌, ◌≤◌, ◌<◌, ◌+◌, ◌-◌, ◌*◌, ◌^◌, ◌↔◌, List, ℤ, [], ◌∷◌, length, IsTrue, IsFalse, IfSome, IfNone, IsNone, pos, neg_ℤ, ◌≤ℤ◌, ◌<ℤ◌, unsigned_abs};
+ghost use Rattle.std.specs.Int.{int_min};
+ghost use Rattle.case_types.specs.Cells.{Region, region_of, plain_low};
+ghost use Rattle.case_types.specs.Columns.{IsColumn, Refutes, point_of};
+ghost use Rattle.case_types.specs.Numbers.{numbers_of};
+ghost use Rattle.box_search.specs.Found.{IsFound, IsPure, IsRootOpen, low_of, units_of};
+ghost use Rattle.box_search.specs.Written.{Writes, WritesSome};
+
+use crate::found::Found;
+use crate::points::{column_at, refutes};
+use crate::stack::Stack;
+use case_types::{Cell, Column, Letters, Plane, Units};
+use density_boxes::{edge_to_halve, is_unit, midpoint, misses};
+use pr_params::Params;
+use tangent_bound::low_plain;
+
+/// No low of a cell is above this, in 2^-40 bit.
+const HIGHEST: i128 = 1 << 107;
+
+/// Searches the whole domain for a grid point below the plane by more than `delta`, in 2^-40 bit.
+///
+/// A cell is cleared where the energy lies above the plane less `delta` all over it. Each halving costs a unit, and so
+/// does a refutation. `letters` gets the letters of this search behind what it holds.
+pub fn search(
+    params: &Params,
+    plane: &Plane,
+    delta: i128,
+    letters: &mut Letters,
+    units: &mut Units,
+) -> Found
+    requires one { params.now.case.n ≡ 1 }
+    requires delta_low { pos 1 ≤ℤ delta }
+    requires delta_high { delta ≤ℤ pos (2 ^ 39) }
+    requires room { 2 * (units.old.budget - units.old.spent) + 200 ≤ letters.old.spare }
+    ensures found { IsFound (numbers_of params.now.case) plane.now.lam delta units.new result }
+    ensures pure { IsPure result }
+    ensures small { unsigned_abs (low_of result) ≤ 2 ^ 107 }
+    ensures root { IsRootOpen (numbers_of params.now.case) plane.now.lam delta result }
+    ensures letters { Writes letters.old letters.new (units.new.spent - units.old.spent) }
+    ensures budget { units.new.budget ≡ units.old.budget }
+    ensures spent { units.old.spent + units_of result ≤ units.new.spent }
+{
+    let n = params.case.n;
+    let mut stack = Stack::new(n);
+    let mut low = HIGHEST;
+    while let Some(cell) = stack.pop() {
+        let here = low_plain(params, plane, &cell);
+        if here >= -delta {
+            letters.push(b'p');
+            low = smaller(low, here);
+        } else if let Some(column) = refuting(params, plane, delta, &cell) {
+            if units.is_spent() {
+                let low = close(params, plane, smaller(low, here), letters, stack);
+                return Found::Spent { low };
+            }
+            units.spend();
+            return Found::Refuted { column };
+        } else if is_unit(&cell, edge_to_halve(n, &cell)) {
+            let low = close(params, plane, smaller(low, here), letters, stack);
+            return Found::Grain { low, cell };
+        } else if units.is_spent() {
+            let low = close(params, plane, smaller(low, here), letters, stack);
+            return Found::Spent { low };
+        } else {
+            units.spend();
+            letters.push(b'y');
+            stack.push_halves(&cell);
+        }
+    }
+    Found::AllClear { low }
+}
+
+/// The column in the middle of the cell, if it lies below the plane by more than `delta`.
+fn refuting(params: &Params, plane: &Plane, delta: i128, cell: &Cell) -> Option<Column>
+    requires one { params.now.case.n ≡ 1 }
+    requires delta_low { pos 1 ≤ℤ delta }
+    requires delta_high { delta ≤ℤ pos (2 ^ 39) }
+    ensures column { IfSome result (λ c. IsColumn (numbers_of params.now.case) c) }
+    ensures pure { IfSome result (λ c. c.comp ≡ 2 ^ 20 ∷ 0 ∷ 0 ∷ 0 ∷ []) }
+    ensures refutes { IfSome result (λ c. Refutes (numbers_of params.now.case) plane.now.lam delta (point_of c)) }
+{
+    let (_, packing) = midpoint(params.case.n, cell)?;
+    let column = column_at(params, packing)?;
+    if refutes(plane, delta, &column) {
+        Some(column)
+    } else {
+        None
+    }
+}
+
+/// Writes the leaf letter of the cell in hand and of the cells that are left, and answers the least low.
+fn close(params: &Params, plane: &Plane, low: i128, letters: &mut Letters, mut stack: Stack) -> i128
+    requires one { params.now.case.n ≡ 1 }
+    requires room { length stack + 1 ≤ letters.old.spare }
+    requires small { unsigned_abs low ≤ 2 ^ 107 }
+    ensures low { result ≤ℤ low }
+    ensures small { unsigned_abs result ≤ 2 ^ 107 }
+    ensures letters { WritesSome letters.old letters.new (length stack + 1) }
+{
+    letters.push(b'p');
+    let mut low = low;
+    while let Some(cell) = stack.pop() {
+        letters.push(b'p');
+        low = smaller(low, low_plain(params, plane, &cell));
+    }
+    low
+}
+
+/// The lesser number.
+fn smaller(a: i128, b: i128) -> i128
+    ensures first { result ≤ℤ a }
+    ensures second { result ≤ℤ b }
+    ensures either { (z : ℤ) → z ≤ℤ a → z ≤ℤ b → z ≤ℤ result }
+{
+    if a <= b { a } else { b }
+}

@@ -1,0 +1,6 @@
+pub mod Samples
+mod ByNumbers
+mod Refusals
+mod Splits
+mod Trees
+mod Exact

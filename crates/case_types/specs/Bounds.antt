@@ -1,0 +1,182 @@
+-- Bounds of energies over a box of compositions, in whole numbers: 2^-40 bit where nothing else is said.
+use Rattle.std.specs.Prelude.{ℕ, ◌+◌, ◌-◌, ◌*◌, ◌/◌, ◌^◌, List, [], ◌∷◌, map, ◌==◌, if◌then◌else◌, ℤ, pos, ◌+ℤ◌, ◌-ℤ◌, ◌*ℤ◌, int_le, unsigned_abs, slice_index, slice_index_or}
+use Rattle.std.specs.Int.{int_min, int_max}
+use Rattle.log_laws.specs.Squaring.{log_down, log_up}
+use Rattle.case_types.specs.declared.phases.Phase.{Phase}
+use Rattle.case_types.specs.declared.phases.Split.{Split}
+use Rattle.case_types.specs.Numbers.{Numbers}
+use Rattle.case_types.specs.Sums.{sum_below, int_sum_below, least_below, greatest_below}
+use Rattle.log_laws.specs.Between.{Ends}
+use Rattle.log_laws.specs.Whole.{floor_div, ceil_div}
+use Rattle.case_types.specs.Tables.{ends_at, ends_of_pair}
+
+abbrev pub one : ℕ
+one = 2 ^ 40
+
+-- the ends of the fractions of all components, in 2^-40
+pub record Box : Type 0 where
+  pub lo : List ℕ
+  pub hi : List ℕ
+
+abbrev pub low_fraction : Box → ℕ → ℤ
+low_fraction x i = pos (slice_index x.lo i)
+
+abbrev pub high_fraction : Box → ℕ → ℤ
+high_fraction x i = pos (slice_index x.hi i)
+
+-- ---- the mean covolume, in 2^-(56+lift): the last fraction is what the others leave of one
+abbrev pub covolume_low_by_rest : Numbers → Box → ℤ
+covolume_low_by_rest p x =
+    let rest = p.count - 1 in
+    let step : ℕ → ℤ = λ i. (ends_at p.covolumes i).lo -ℤ (ends_at p.covolumes rest).hi in
+    floor_div
+    ((ends_at p.covolumes rest).lo *ℤ pos one
+    +ℤ int_sum_below rest (λ i. int_min (step i *ℤ low_fraction x i) (step i *ℤ high_fraction x i)))
+    (pos one)
+
+abbrev pub covolume_high_by_rest : Numbers → Box → ℤ
+covolume_high_by_rest p x =
+    let rest = p.count - 1 in
+    let step : ℕ → ℤ = λ i. (ends_at p.covolumes i).hi -ℤ (ends_at p.covolumes rest).lo in
+    ceil_div
+    ((ends_at p.covolumes rest).hi *ℤ pos one
+    +ℤ int_sum_below rest (λ i. int_max (step i *ℤ low_fraction x i) (step i *ℤ high_fraction x i)))
+    (pos one)
+
+unfoldable pub covolume_range : Numbers → Box → Ends
+covolume_range p x =
+    let first = ends_at p.covolumes 0 in
+    record {
+      lo = int_max (least_below p.count (λ i. (ends_at p.covolumes i).lo) first.lo) (covolume_low_by_rest p x);
+      hi = int_min (greatest_below p.count (λ i. (ends_at p.covolumes i).hi) first.hi) (covolume_high_by_rest p x);
+    }
+
+-- ---- the attraction over the covolume
+-- in 2^-(49+lift)
+abbrev pub attraction_low : Numbers → Box → ℤ
+attraction_low p x =
+    floor_div (int_sum_below p.count (λ i. low_fraction x i *ℤ
+    floor_div (int_sum_below p.count (λ j. low_fraction x j *ℤ (ends_of_pair p.attractions i j).lo)) (pos one))) (pos one)
+
+abbrev pub attraction_high : Numbers → Box → ℤ
+attraction_high p x =
+    ceil_div (int_sum_below p.count (λ i. high_fraction x i *ℤ
+    ceil_div (int_sum_below p.count (λ j. high_fraction x j *ℤ (ends_of_pair p.attractions i j).hi)) (pos one))) (pos one)
+
+unfoldable pub ratio_low : Numbers → Box → ℤ
+ratio_low p x = floor_div (attraction_low p x *ℤ pos (2 ^ 47)) (covolume_range p x).hi
+
+unfoldable pub ratio_high : Numbers → Box → ℤ
+ratio_high p x = int_min (ceil_div (attraction_high p x *ℤ pos (2 ^ 47)) (covolume_range p x).lo) p.rho
+
+-- ---- the logarithm of the attraction term, at a packing
+-- the root of 2 times the packing
+abbrev pub stretched_down : Numbers → ℕ → ℕ
+stretched_down p y = unsigned_abs (floor_div (p.root_two.lo *ℤ pos y) (pos (2 ^ 60)))
+
+abbrev pub stretched_up : Numbers → ℕ → ℕ
+stretched_up p y = unsigned_abs (ceil_div (p.root_two.hi *ℤ pos y) (pos (2 ^ 60)))
+
+unfoldable pub lambda_down : Numbers → ℕ → ℤ
+lambda_down p y = log_down (one + y + stretched_down p y) 40 -ℤ log_up (one + y - stretched_down p y) 40
+
+unfoldable pub lambda_up : Numbers → ℕ → ℤ
+lambda_up p y = log_up (one + y + stretched_up p y) 40 -ℤ log_down (one + y - stretched_up p y) 40
+
+-- ---- x log x for a fraction between a and b: below by the tangent at b
+unfoldable pub mixing_low : Numbers → ℕ → ℕ → ℤ
+mixing_low p a b =
+    if b == 0 then pos 0
+    else int_min
+    (floor_div (pos b *ℤ log_down b 40) (pos one))
+    (floor_div (pos a *ℤ log_down b 40 -ℤ p.log_e.hi *ℤ (pos b -ℤ pos a)) (pos one))
+
+unfoldable pub mixing_up : ℕ → ℕ → ℤ
+mixing_up a b = if b == 0 then pos 0 else ceil_div (pos a *ℤ log_up b 40) (pos one)
+
+-- ---- log2 y + log2e B / y for packings from yl to yh: below by the tangent at yh, at yl, or where it is flat
+abbrev pub covolume_scale : Numbers → ℕ
+covolume_scale p = 2 ^ (16 + p.lift)
+
+unfoldable pub volume_low : Numbers → ℤ → ℕ → ℕ → ℤ
+volume_low p b yl yh =
+    let s = pos (covolume_scale p) in
+    let w = p.log_e.lo *ℤ b in
+    let flat = unsigned_abs (floor_div w (p.log_e.hi *ℤ s)) in
+    if int_le (p.log_e.hi *ℤ pos yh *ℤ s) w then log_down yh 40 +ℤ floor_div w (pos yh *ℤ s)
+    else if int_le w (p.log_e.lo *ℤ pos yl *ℤ s) then log_down yl 40 +ℤ floor_div w (pos yl *ℤ s)
+    else log_down flat 40 +ℤ p.log_e.lo
+
+-- ---- the energy
+-- at every composition of the box and every packing from yl to yh the energy is at least this
+unfoldable pub energy_low : Numbers → Box → ℕ → ℕ → ℤ
+energy_low p x yl yh =
+    let b = covolume_range p x in
+    int_sum_below p.count (λ i. mixing_low p (slice_index x.lo i) (slice_index x.hi i))
+    +ℤ volume_low p b.lo yl yh
+    -ℤ log_up (unsigned_abs b.hi) (56 + p.lift)
+    -ℤ log_up (one - yl) 40
+    -ℤ ceil_div (ratio_high p x *ℤ lambda_up p yh *ℤ pos (2 ^ 19)) p.root_two.lo
+
+-- at every composition of the box and the packing y the energy is at most this
+unfoldable pub energy_up : Numbers → Box → ℕ → ℤ
+energy_up p x y =
+    let b = covolume_range p x in
+    int_sum_below p.count (λ i. mixing_up (slice_index x.lo i) (slice_index x.hi i))
+    +ℤ log_up y 40
+    +ℤ ceil_div (p.log_e.hi *ℤ b.hi) (pos y *ℤ pos (covolume_scale p))
+    -ℤ log_down (unsigned_abs b.lo) (56 + p.lift)
+    -ℤ log_down (one - y) 40
+    -ℤ floor_div (ratio_low p x *ℤ lambda_down p y *ℤ pos (2 ^ 19)) p.root_two.hi
+
+-- ---- phases and splits
+-- n / d to a whole number, down and up
+abbrev pub share_down : ℕ → ℕ → ℕ → ℕ
+share_down scale n d = n * scale / d
+
+abbrev pub share_up : ℕ → ℕ → ℕ → ℕ
+share_up scale n d = (n * scale + (d - 1)) / d
+
+-- the smallest box that holds the composition of these parts
+abbrev pub box_of_parts : ℕ → List ℕ → Box
+box_of_parts n parts =
+    let m = sum_below n (slice_index parts) in
+    record { lo = map (λ k. share_down one k m) parts; hi = map (λ k. share_up one k m) parts }
+
+-- ---- planes
+-- the plane at parts of a composition, times their sum
+unfoldable pub plane_times : ℕ → List ℤ → List ℕ → ℤ
+plane_times n lam parts = int_sum_below n (λ i. slice_index_or lam i (pos 0) *ℤ pos (slice_index parts i))
+
+-- at a composition of parts of the given sum
+unfoldable pub plane_at : ℕ → List ℤ → List ℕ → ℕ → ℤ
+plane_at n lam parts sum = floor_div (plane_times n lam parts) (pos sum)
+
+-- over a box the plane is at most this
+unfoldable pub plane_high : ℕ → List ℤ → Box → ℤ
+plane_high n lam x =
+    let rest = slice_index_or lam (n - 1) (pos 0) in
+    let step : ℕ → ℤ = λ i. slice_index_or lam i (pos 0) -ℤ rest in
+    int_min
+    (greatest_below n (λ i. slice_index_or lam i (pos 0)) (slice_index_or lam 0 (pos 0)))
+    (ceil_div
+    (rest *ℤ pos one
+    +ℤ int_sum_below (n - 1) (λ i. int_max (step i *ℤ low_fraction x i) (step i *ℤ high_fraction x i)))
+    (pos one))
+
+-- ---- the energy of a split
+-- a share of the sum times an energy, up: the share is rounded to the side that makes the product greater
+abbrev pub share_of_energy : ℕ → ℕ → ℤ → ℤ
+share_of_energy m sum u =
+    ceil_div (int_max (pos (share_down (2 ^ 60) m sum) *ℤ u) (pos (share_up (2 ^ 60) m sum) *ℤ u)) (pos (2 ^ 60))
+
+abbrev pub phase_up : Numbers → Phase → ℤ
+phase_up p f = energy_up p (box_of_parts p.count f.parts) f.packing
+
+unfoldable pub phases_up : Numbers → ℕ → List Phase → ℤ
+phases_up p sum [] = pos 0
+phases_up p sum (f ∷ fs) = share_of_energy (sum_below p.count (slice_index f.parts)) sum (phase_up p f) +ℤ phases_up p sum fs
+
+-- U: the energy of the split is at most this
+abbrev pub split_up : Numbers → Split → ℤ
+split_up p s = phases_up p s.sum s.phases.items

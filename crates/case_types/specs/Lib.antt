@@ -1,0 +1,15 @@
+pub mod Spared
+pub mod Sums
+pub mod Ranges
+pub mod Tables
+pub mod CaseWords
+pub mod Instances
+pub mod Parameters
+pub mod Divisions
+pub mod Numbers
+pub mod Faults
+pub mod Bounds
+pub mod Cells
+pub mod Columns
+pub mod Answers
+pub mod Weighing

@@ -1,0 +1,7 @@
+use Rattle.std.proofs.Common.{refl}
+use Rattle.case_types.specs.Sums.{list_below}
+use Rattle.density_boxes.proofs.boxes.root.Goals as goal
+
+pub returns : goal.returns
+unfolding list_below
+returns c = rw c.requires refl

@@ -1,0 +1,17 @@
+//! The cells of the search: boxes of compositions times ranges of packing fractions.
+//!
+//! A cell bounds the free fractions, which are all but the last, and the packing fraction. Edges 0, 1 and 2 are the free
+//! fractions, edge 3 is the packing.
+#![tactic(auto)]
+
+mod boxes;
+mod edges;
+mod halves;
+mod midpoints;
+#[cfg(test)]
+mod tests;
+
+pub use boxes::{cell_box, misses, root};
+pub use edges::{PACKING, edge_to_halve, is_unit};
+pub use halves::halve;
+pub use midpoints::midpoint;

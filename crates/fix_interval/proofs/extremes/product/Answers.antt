@@ -1,0 +1,12 @@
+use Rattle.std.proofs.Common.{arith, ◌*ℤ◌}
+use Rattle.log_laws.proofs.Wide.{back}
+use Rattle.fix_interval.proofs.Wrapped.{product_small}
+use Rattle.fix_interval.proofs.extremes.product.Goals as goal
+
+pub returns-clause-value : goal.returns-clause-value
+returns-clause-value c =
+    rw (back c.args.x (omega arith), back c.args.y (omega arith))
+    (back (c.args.x *ℤ c.args.y) (omega (arith, product_small c.args.x c.args.y c.requires.x c.requires.y)))
+
+pub returns-clause-small : goal.returns-clause-small
+returns-clause-small c = rw (returns-clause-value c) (product_small c.args.x c.args.y c.requires.x c.requires.y)

@@ -1,0 +1,4 @@
+pub mod Regroup
+pub mod Phases
+pub mod OneComponent
+pub mod NameBytes

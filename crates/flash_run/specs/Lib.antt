@@ -1,0 +1,4 @@
+pub mod Pieces
+pub mod ReportText
+pub mod Ends
+pub mod InRange

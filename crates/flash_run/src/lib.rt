@@ -1,0 +1,20 @@
+//! The top call: from words and a table to a report.
+//!
+//! [`run`] reads the words and the table, flashes, and writes the [`report`]. It answers with the
+//! status and with what it printed, an [`End`].
+#![tactic(auto)]
+
+mod ends;
+mod names;
+mod reading;
+mod reports;
+#[cfg(test)]
+mod tests;
+mod texts;
+mod top;
+mod words;
+
+pub use ends::{End, RunEnd};
+pub use reports::report;
+pub use top::run;
+pub use words::Word;

@@ -1,0 +1,88 @@
+//! The whole program, over its words, its input and its output.
+
+ghost use Rattle.std.specs.Prelude.{◌≡◌, ◌≢◌, ◌⊎◌, ℕ};
+ghost use Rattle.io_edge.specs.Causes.{CountsFault};
+ghost use Rattle.io_edge.specs.Reading.{TakesAtMost};
+ghost use Rattle.io_edge.specs.Writing.{WritesAll, WritesSome};
+ghost use Rattle.flash_run.specs.ReportText.{report_text};
+ghost use Rattle.flash_run.specs.Ends.{status_of, IsFlashed, CountsRead};
+
+use crate::ends::{End, RunEnd};
+use crate::reading::{read_case, read_words};
+use crate::reports::report;
+use crate::words::Word;
+use io_edge::{ReadStop, Sink, Source, read_all, write_all};
+use plane_rounds::flash_tp;
+use pr_params::params;
+use std::alloc::Global;
+
+/// The most bytes of a table.
+const LIMIT: usize = 128;
+
+/// The whole program: reads the words and the table, works, and writes the report.
+///
+/// Nothing is read where the words are refused.
+pub fn run<S: Source, K: Sink>(
+    alloc: Global,
+    words: &Vec<Word>,
+    source: &mut S,
+    sink: &mut K,
+) -> RunEnd
+    ensures status { (result.status ≡ 7) ⊎ (result.status ≡ status_of result.end) }
+    ensures memory { result.end ≡ End.Memory → result.status ≡ 8 }
+
+    // What is written, and the sink's count of faults.
+    ensures written { result.status ≢ 7 → result.status ≢ 8 → WritesAll (report_text result.end)
+        (K.held sink.old) (K.held sink.new) (K.faults sink.old) (K.faults sink.new) }
+    ensures cut { result.status ≡ 7 → WritesSome (report_text result.end)
+        (K.held sink.old) (K.held sink.new) (K.faults sink.old) (K.faults sink.new) }
+    ensures nothing { result.status ≡ 8 → K.held sink.new ≡ K.held sink.old }
+    ensures no_fault { result.status ≡ 8 → K.faults sink.new ≡ K.faults sink.old }
+
+    // The source's count of faults, and the bytes that were taken.
+    ensures read_fault { result.status ≡ 6 → CountsFault (S.faults source.old) (S.faults source.new) }
+    ensures reads { CountsRead result.end (S.faults source.old) (S.faults source.new) }
+    ensures takes { TakesAtMost 129 (S.left source.old) (S.left source.new) }
+
+    ensures answer { IsFlashed result.end }
+{
+    let end = work(alloc, words, source);
+    let Ok(text) = report(alloc, &end) else {
+        return RunEnd {
+            status: 8,
+            end: End::Memory,
+        };
+    };
+    let status = match write_all(sink, &text) {
+        Ok(()) => end.status(),
+        Err(_) => 7,
+    };
+    RunEnd { status, end }
+}
+
+/// What the words and the input come to.
+fn work<S: Source>(alloc: Global, words: &Vec<Word>, source: &mut S) -> End
+    ensures takes { TakesAtMost 129 (S.left source.old) (S.left source.new) }
+    ensures reads { CountsRead result (S.faults source.old) (S.faults source.new) }
+    ensures answer { IsFlashed result }
+{
+    let Some(asked) = read_words(words) else {
+        return End::Unbuilt;
+    };
+    let table = match read_all(alloc, source, LIMIT) {
+        Ok(table) => table,
+        Err(ReadStop::Failed) => return End::Read,
+        Err(ReadStop::TooLong) => return End::Unbuilt,
+        Err(ReadStop::Memory) => return End::Memory,
+    };
+    let Some(case) = read_case(&asked, &table) else {
+        return End::Unbuilt;
+    };
+    let Ok(params) = params(&case) else {
+        return End::Unbuilt;
+    };
+    match flash_tp(alloc, &params, asked.tol, asked.budget) {
+        Ok(answer) => End::Flash(params, asked.tol, answer),
+        Err(_) => End::Memory,
+    }
+}

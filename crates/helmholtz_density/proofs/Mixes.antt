@@ -1,0 +1,33 @@
+-- The mixing term and the volume term as the code computes them.
+use Rattle.std.proofs.Common.{◌≡◌, ◌≢◌, ℕ, false, ◌==◌, ◌*◌, ◌<◌, ◌^◌, ℤ, pos, ◌*ℤ◌, refl, sym, arith}
+use Rattle.log_laws.specs.Squaring.{log_up}
+use Rattle.log_laws.specs.Whole.{floor_div, ceil_div, ceil_quotient}
+use Rattle.log_laws.proofs.Ring.{ceil_over-pos}
+use Rattle.case_types.specs.Bounds.{mixing_up}
+
+-- no fraction adds nothing
+pub mixing_none : (a b : ℕ) → b ≡ 0 → mixing_up a b ≡ pos 0
+unfolding mixing_up
+mixing_none a b e = rw e refl
+
+-- the test of 0 fails elsewhere
+differs : (b : ℕ) → b ≢ 0 → (b == 0) ≡ false
+differs b h = grind arith
+
+-- the mixing term of a fraction above 0
+pub mixing_some : (a b : ℕ) → b ≢ 0 → mixing_up a b ≡ ceil_div (pos a *ℤ log_up b 40) (pos (2 ^ 40))
+unfolding mixing_up
+mixing_some a b h = rw (differs b h) refl
+
+-- a quotient of a product over a product
+pub quotient_is : (e : ℤ) (n b y s r : ℕ) → pos n ≡ e → 0 < y * s → r ≡ ceil_quotient (n * b) (y * s) → pos r ≡ ceil_div (e *ℤ pos b) (pos y *ℤ pos s)
+quotient_is e n b y s r h some is = rw (← h, is) (sym (ceil_over-pos (n * b) (y * s) some))
+
+-- a factor that is natural stands for its value
+pub volume_is : (e h d : ℤ) (n r : ℕ) → pos r ≡ ceil_div (e *ℤ pos n) d → pos n ≡ h → pos r ≡ ceil_div (e *ℤ h) d
+volume_is e h d n r f g = rw (← g) f
+
+-- a product over the root of 2
+pub pull_is : (ratio lam w q v : ℤ) (t : ℕ) → w ≡ ratio *ℤ lam *ℤ pos (2 ^ 19) → q ≡ floor_div w (pos t) → pos t ≡ v →
+    q ≡ floor_div (ratio *ℤ lam *ℤ pos (2 ^ 19)) v
+pull_is ratio lam w q v t e f g = rw (← e, ← g) f

@@ -1,0 +1,28 @@
+use Rattle.std.proofs.Common.{◌∙◌, ◌≤◌, ◌^◌, unsigned_abs, sym, arith}
+use Rattle.std.proofs.lemmas.Int.{ints}
+use Rattle.log_laws.proofs.Wide.{back}
+use Rattle.helmholtz_density.proofs.Mixes.{mixing_none, mixing_some}
+use Rattle.helmholtz_density.proofs.upper.mixing.Goals as goal
+use Rattle.helmholtz_density.proofs.upper.mixing.Goals.{After-log2_hi}
+
+pub returns-then-b-eq0-clause-value : goal.returns-then-b-eq0-clause-value
+returns-then-b-eq0-clause-value c = sym (mixing_none c.args.a c.args.b c.if-b-eq0.true)
+
+-- the logarithm of a fraction is small
+log_small : (c : After-log2_hi) → unsigned_abs c.log2_hi.result ≤ 2 ^ 46
+log_small c =
+    let p = c.log2_hi.ensures.from_power 0 (omega arith) in
+    let q = c.log2_hi.ensures.to_power 41 (omega arith) in
+    omega (arith, ints, p, q)
+
+pub part-requires-clause-log : goal.part-requires-clause-log
+part-requires-clause-log c = let s = log_small c in rw (back c.log2_hi.result (omega (arith, s))) s
+
+pub returns-clause-value : goal.returns-clause-value
+returns-clause-value c =
+    let s = log_small (goal.at.returns-clause-value c).After-log2_hi in
+    let p = c.part.ensures.small in
+    let q = c.ceiling.ensures.small in
+    let e = rw (back c.log2_hi.result (omega (arith, s)), c.log2_hi.ensures.value) at c.part.ensures.value in
+    let f = rw (back c.part.result (omega (arith, p)), e) at c.ceiling.ensures.value in
+    back c.ceiling.result (omega (arith, q)) ∙ f ∙ sym (mixing_some c.args.a c.args.b c.if-b-eq0.false)

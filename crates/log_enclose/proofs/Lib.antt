@@ -1,0 +1,6 @@
+pub mod Squares
+pub mod SquaresUp
+pub mod Width
+pub mod Logs
+pub mod Constants
+pub mod Bounds

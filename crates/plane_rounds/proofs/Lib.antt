@@ -1,0 +1,2 @@
+pub mod OnePhase
+pub mod Ended

@@ -1,0 +1,65 @@
+-- The upper energy of one phase of one component, and a plane at its feed.
+use Rattle.std.proofs.Common.{◌≡◌, ℕ, zero, suc, ◌+◌, ◌*◌, ◌^◌, ◌<◌, ◌≤◌, List, [], ◌∷◌, nat_le, ℤ, pos, negsuc, neg_ℤ, ◌+ℤ◌, ◌-ℤ◌, ◌*ℤ◌, slice_index, slice_index_or, IsTrue, subst, refl, ap, sym, ◌∙◌, arith, lit<}
+use Rattle.std.specs.Int.{int_max}
+use Rattle.std.proofs.lemmas.Int.{ints, clamps}
+use Rattle.log_laws.specs.Whole.{floor_over, ceil_over}
+use Rattle.log_laws.proofs.Ring.{floor_over-le, lt-floor_over}
+use Rattle.std.proofs.Math.Nat.{add-mul-div_right, zero-div}
+use Rattle.std.proofs.lemmas.Nat.{div-mul-add}
+use Rattle.pr_params.proofs.Component.{at_most}
+use Rattle.case_types.specs.declared.cases.Case.{Case}
+use Rattle.case_types.specs.declared.phases.Phase.{Phase}
+use Rattle.case_types.specs.Bounds.{energy_up, plane_at, plane_times, phases_up, share_of_energy, box_of_parts}
+use Rattle.case_types.specs.Columns.{point_box}
+use Rattle.case_types.specs.Numbers.{Numbers}
+use Rattle.case_types.specs.Sums.{int_sum_below, sum_below, all_below}
+
+-- a whole share of an energy is the energy
+whole_share : (u : ℤ) → share_of_energy 1 1 u ≡ u
+whole_share u =
+    let x : ℤ = pos (2 ^ 60) *ℤ u in
+    let most : int_max x x ≡ x = omega (arith, ints, clamps) in
+    let low = floor_over-le (neg_ℤ x) (2 ^ 60) (lit< tt) in
+    let high = lt-floor_over (neg_ℤ x) (2 ^ 60) (lit< tt) in
+    let ceiling : ceil_over x (2 ^ 60) ≡ u = omega (arith, ints, low, high) in
+    ap (λ z. ceil_over z (2 ^ 60)) most ∙ ceiling
+
+plus_none : (z : ℤ) → z ≡ z +ℤ pos 0
+plus_none z = omega (arith, ints)
+
+-- the upper energy of one phase of n components, all of the feed
+abbrev phase_alone : Numbers → Phase → ℕ → ℤ
+phase_alone p f n = share_of_energy (sum_below n (slice_index f.parts)) 1 (energy_up p (box_of_parts n f.parts) f.packing) +ℤ pos 0
+
+phases_are : (p : Numbers) (f : Phase) → phases_up p 1 (f ∷ []) ≡ phase_alone p f p.count
+unfolding phases_up
+phases_are p f = refl
+
+-- one part of one component in one phase
+pub one_phase_up : (p : Numbers) (f : Phase) (u : ℤ) → p.count ≡ 1 → f.parts ≡ 1 ∷ 0 ∷ 0 ∷ 0 ∷ [] → u ≡ energy_up p (point_box (2 ^ 20 ∷ 0 ∷ 0 ∷ 0 ∷ [])) f.packing →
+    u ≡ phases_up p 1 (f ∷ [])
+one_phase_up p f u n parts e =
+    let up : ℤ = energy_up p (point_box (2 ^ 20 ∷ 0 ∷ 0 ∷ 0 ∷ [])) f.packing in
+    let alone : phase_alone p f 1 ≡ share_of_energy 1 1 up +ℤ pos 0 = rw parts refl in
+    e ∙ sym (whole_share up) ∙ plus_none (share_of_energy 1 1 up) ∙ sym (phases_are p f ∙ ap (λ k. phase_alone p f k) n ∙ alone)
+
+-- a multiple over the same number
+floor_multiple : (z : ℤ) (d : ℕ) → 0 < d → floor_over (pos 0 +ℤ z *ℤ pos d) d ≡ z
+floor_multiple (pos n) d h = ap pos (add-mul-div_right 0 n h ∙ (rw (zero-div d) (omega arith)))
+floor_multiple (negsuc n) zero h = absurd (omega (arith, h))
+floor_multiple (negsuc n) (suc k) h =
+    let e : pos 0 +ℤ negsuc n *ℤ pos (suc k) ≡ negsuc (n * suc k + k) = omega (arith, ints) in
+    rw e (ap negsuc (div-mul-add n (suc k) k (omega arith)))
+
+at_one : (lam : List ℤ) (z : List ℕ) (total : ℕ) → slice_index z 0 ≡ total → 0 < total → plane_at 1 lam z total ≡ slice_index_or lam 0 (pos 0)
+unfolding plane_at plane_times int_sum_below
+at_one lam z total same some = rw same (floor_multiple (slice_index_or lam 0 (pos 0)) total some)
+
+-- at the feed a plane is its one number
+pub plane_at_feed : (c : Case) (lam : List ℤ) → c.n ≡ 1 → plane_at c.n lam c.z c.total ≡ slice_index_or lam 0 (pos 0)
+plane_at_feed c lam h =
+    let total : 0 + slice_index c.z 0 ≡ c.total = subst (λ n. sum_below n (slice_index c.z) ≡ c.total) h c.added in
+    let live : IsTrue (nat_le 1 (slice_index c.z 0)) = subst (λ n. IsTrue (all_below n (λ i. nat_le 1 (slice_index c.z i)))) h c.live in
+    let some : 1 ≤ slice_index c.z 0 = at_most 1 (slice_index c.z 0) live in
+    let same : slice_index c.z 0 ≡ c.total = omega (arith, total) in
+    ap (λ n. plane_at n lam c.z c.total) h ∙ at_one lam c.z c.total same (omega (arith, some, same))

@@ -1,0 +1,11 @@
+pub mod One
+pub mod Lift
+pub mod Component
+pub mod Sizes
+pub mod Alpha
+pub mod Temperature
+pub mod Faulted
+pub mod Made
+pub mod Accepted
+pub mod Signed
+pub mod Mean

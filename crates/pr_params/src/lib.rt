@@ -1,0 +1,21 @@
+//! The parameters of the Peng-Robinson equation in whole numbers, each between a lower and an upper end.
+//!
+//! The constants are those of Peng and Robinson 1976, with the gas constant cancelled. Roots are known by their whole
+//! neighbours, so every parameter is a pair of ends at a stated scale. `lift` is how many bits all reduced co-volumes can
+//! be raised by, so that small ones keep their digits.
+#![tactic(auto)]
+
+mod alphas;
+mod attractions;
+mod covolumes;
+mod lambdas;
+mod making;
+mod naturals;
+mod numbers;
+mod ranges;
+mod readers;
+
+pub use lambdas::{lam_hi, lam_lo};
+pub use making::params;
+pub use numbers::Params;
+pub use ranges::{b_range, g_hi, g_lo};

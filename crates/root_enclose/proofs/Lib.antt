@@ -1,0 +1,2 @@
+pub mod RootDigits
+pub mod Squares

@@ -1,0 +1,19 @@
+use Rattle.std.proofs.Common.{◌∙◌, ◌<◌, ◌^◌, unsigned_abs, arith}
+use Rattle.std.proofs.lemmas.Int.{ints}
+use Rattle.log_laws.proofs.Wide.{back}
+use Rattle.case_types.specs.Bounds.{lambda_up}
+use Rattle.case_types.specs.Numbers.{numbers_of}
+use Rattle.tangent_bound.proofs.Terms.{pull_is}
+use Rattle.tangent_bound.proofs.pulls.pull.Goals as goal
+
+pub returns-clause-value : goal.returns-clause-value
+returns-clause-value c =
+    let p = numbers_of c.args.params.now.case in
+    let r : unsigned_abs c.args.ratio < 2 ^ 127 = omega (arith, ints, c.requires.ratio_low, c.requires.ratio_high) in
+    let l = c.lam_hi.ensures.small in
+    let s = c.weighed.ensures.small in
+    let t = c.raised.ensures.small in
+    let e = rw (back c.args.ratio r, back c.lam_hi.result (omega (arith, l)), c.lam_hi.ensures.value) at c.weighed.ensures.value in
+    let f = rw (back c.weighed.result (omega (arith, s))) at c.raised.ensures.value in
+    back c.raised.result (omega (arith, t))
+    ∙ pull_is c.args.ratio (lambda_up p c.args.y) c.weighed.result c.raised.result p.root_two.lo c.two_lo.result e f c.two_lo.ensures.value

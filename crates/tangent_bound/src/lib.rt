@@ -1,0 +1,13 @@
+//! Lower bounds of the reduced energy over a cell, and of how far it lies above a tangent plane.
+#![tactic(auto)]
+
+mod lower;
+mod mixes;
+mod plain;
+mod planes;
+mod pulls;
+mod volumes;
+
+pub use lower::low_energy;
+pub use plain::low_plain;
+pub use planes::plane_hi;
