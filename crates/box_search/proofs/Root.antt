@@ -1,5 +1,5 @@
 -- The whole domain is the first cell of a search.
-use Rattle.std.proofs.Common.{◌≡◌, ℕ, List, [], ◌∷◌, ◌⊎◌, inl, inr, ℤ, neg_ℤ, ◌<ℤ◌, ◌+◌, length, ap, sym, ◌∙◌, refl, arith}
+use Rattle.std.proofs.Common.{◌≡◌, List, [], ◌∷◌, ◌⊎◌, inl, inr, ℤ, neg_ℤ, ◌<ℤ◌, ◌+◌, length, ap, sym, ◌∙◌, refl, arith}
 use Rattle.case_types.specs.Cells.{Region, root_region, plain_low}
 use Rattle.case_types.specs.Numbers.{Numbers}
 

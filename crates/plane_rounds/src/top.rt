@@ -38,7 +38,14 @@ pub fn flash_tp(alloc: Global, params: &Params, tol: u32, budget: u32) -> Result
     let mut basis = first;
     loop {
         let plane = plane_of(&basis);
-        let found = round(params, &plane, basis.up as i128, delta, &mut work, &mut units);
+        let found = round(
+            params,
+            &plane,
+            basis.up as i128,
+            delta,
+            &mut work,
+            &mut units,
+        );
         let column = match next_of(&found) {
             Next::Enters(column) => column,
             Next::Ends(ending) => {

@@ -1,4 +1,4 @@
-use Rattle.std.proofs.Common.{◌≡◌, ◌^◌, ◌<◌, unsigned_abs, pos, refl, arith, ap, ◌∙◌, sym, to_z, of_z}
+use Rattle.std.proofs.Common.{◌≡◌, ◌^◌, ◌<◌, unsigned_abs, refl, arith, ap, ◌∙◌, to_z, of_z}
 use Rattle.std.specs.Int.{w64, w128}
 use Rattle.std.proofs.lemmas.Int.{ints}
 use Rattle.log_laws.specs.Whole.{ceil_over}

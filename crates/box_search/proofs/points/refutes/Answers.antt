@@ -1,4 +1,4 @@
-use Rattle.std.proofs.Common.{◌≡◌, ◌^◌, ◌<◌, unsigned_abs, slice_index_or, pos, arith}
+use Rattle.std.proofs.Common.{slice_index_or, pos, arith}
 use Rattle.std.proofs.lemmas.Int.{ints}
 use Rattle.log_laws.proofs.Wide.{back}
 use Rattle.box_search.proofs.Pure.{plane_at_pure, first_small}

@@ -1,6 +1,5 @@
 use Rattle.std.proofs.Common.{◌≡◌, ◌+◌, ◌-◌, ◌∙◌, ◌^◌, pos, neg_ℤ, length, ap, arith}
 use Rattle.std.proofs.lemmas.Int.{ints}
-use Rattle.box_search.specs.Written.{WritesSome}
 use Rattle.log_laws.proofs.Wide.{back}
 use Rattle.pr_params.proofs.Alpha.{abs_within}
 use Rattle.box_search.proofs.Letters.{one_more}

@@ -1,4 +1,4 @@
-use Rattle.std.proofs.Common.{◌≡◌, ◌+◌, ◌-◌, ◌≤◌, ◌≤ℤ◌, ◌^◌, unsigned_abs, length}
+use Rattle.std.proofs.Common.{◌+◌, ◌-◌, ◌≤◌, ◌≤ℤ◌, ◌^◌, unsigned_abs, length}
 use Rattle.box_search.specs.Written.{WritesSome}
 use Rattle.box_search.proofs.searching.close.Given as goal
 

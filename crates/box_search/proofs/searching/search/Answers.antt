@@ -1,11 +1,10 @@
-use Rattle.std.proofs.Common.{◌≡◌, ◌≤◌, ◌<◌, ◌+◌, ◌-◌, ◌*◌, ◌^◌, [], ◌∷◌, length, ℤ, pos, neg_ℤ, ◌<ℤ◌, unsigned_abs, to_z, of_z, ap, sym, refl, ◌∙◌, inl, inr, arith}
+use Rattle.std.proofs.Common.{◌≡◌, ◌≤◌, ◌+◌, ◌-◌, ◌*◌, ◌^◌, [], ◌∷◌, length, pos, neg_ℤ, ◌<ℤ◌, to_z, of_z, ap, refl, ◌∙◌, inl, inr, arith}
 use Rattle.std.specs.Int.{w128}
 use Rattle.std.proofs.lemmas.Int.{ints}
 use Rattle.log_laws.proofs.Wide.{back}
-use Rattle.case_types.specs.Cells.{region_of, root_region, plain_low, edge_to_halve, lower_half, upper_half}
+use Rattle.case_types.specs.Cells.{region_of, root_region, plain_low}
 use Rattle.case_types.specs.Numbers.{numbers_of}
 use Rattle.pr_params.proofs.Alpha.{abs_within}
-use Rattle.box_search.specs.Written.{WritesSome}
 use Rattle.box_search.proofs.Letters.{no_more, one_more, then_more, writes}
 use Rattle.box_search.proofs.Narrow.{narrow_root, narrow_rest, narrow_halves}
 use Rattle.box_search.proofs.Pure.{count_is, packing_named, not_one}

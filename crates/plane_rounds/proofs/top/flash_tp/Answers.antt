@@ -97,15 +97,15 @@ loop-column-preserved c =
       column = found.0;
       comp = rw c.in-Enters.ensures at c.round-found.ensures.pure;
       room = record {
-          columns = omega (arith, room.columns, columns, c.spend.ensures.spent, c.spend.ensures.budget);
-          pivots = omega (arith, room.pivots, c.pivot.ensures.room, c.spend.ensures.spent, c.spend.ensures.budget);
-          letters = omega (arith, room.letters, letters, c.spend.ensures.spent, c.spend.ensures.budget);
-          rounds = omega (arith, room.rounds, rounds, c.spend.ensures.spent, c.spend.ensures.budget);
+        columns = omega (arith, room.columns, columns, c.spend.ensures.spent, c.spend.ensures.budget);
+        pivots = omega (arith, room.pivots, c.pivot.ensures.room, c.spend.ensures.spent, c.spend.ensures.budget);
+        letters = omega (arith, room.letters, letters, c.spend.ensures.spent, c.spend.ensures.budget);
+        rounds = omega (arith, room.rounds, rounds, c.spend.ensures.spent, c.spend.ensures.budget);
       };
       counted = record {
-          columns = omega (arith, counted.columns, ap (λ (x : Spared Column). length x.items) c.pivot.ensures.columns, c.spend.ensures.spent);
-          pivots = omega (arith, counted.pivots, c.pivot.ensures.longer, c.spend.ensures.spent);
-          letters = omega (arith, counted.letters, ap (λ (x : Spared ℕ). length x.items) c.pivot.ensures.letters, c.spend.ensures.spent);
+        columns = omega (arith, counted.columns, ap (λ (x : Spared Column). length x.items) c.pivot.ensures.columns, c.spend.ensures.spent);
+        pivots = omega (arith, counted.pivots, c.pivot.ensures.longer, c.spend.ensures.spent);
+        letters = omega (arith, counted.letters, ap (λ (x : Spared ℕ). length x.items) c.pivot.ensures.letters, c.spend.ensures.spent);
       };
       budget = c.spend.ensures.budget ∙ c.round-found.ensures.budget ∙ c.loop-column.invariant.budget;
       begun = inr (first_open here);
