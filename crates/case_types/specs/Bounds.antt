@@ -7,7 +7,7 @@ use Rattle.case_types.specs.declared.phases.Split.{Split}
 use Rattle.case_types.specs.Numbers.{Numbers}
 use Rattle.case_types.specs.Sums.{sum_below, int_sum_below, least_below, greatest_below}
 use Rattle.log_laws.specs.Between.{Ends}
-use Rattle.log_laws.specs.Whole.{floor_div, ceil_div}
+use Rattle.log_laws.specs.Whole.{ceil_quotient, floor_div, ceil_div}
 use Rattle.case_types.specs.Tables.{ends_at, ends_of_pair}
 
 abbrev pub one : ℕ
@@ -135,7 +135,7 @@ abbrev pub share_down : ℕ → ℕ → ℕ → ℕ
 share_down scale n d = n * scale / d
 
 abbrev pub share_up : ℕ → ℕ → ℕ → ℕ
-share_up scale n d = (n * scale + (d - 1)) / d
+share_up scale n d = ceil_quotient (n * scale) d
 
 -- the smallest box that holds the composition of these parts
 abbrev pub box_of_parts : ℕ → List ℕ → Box

@@ -6,7 +6,7 @@ ghost use Rattle.fix_interval.specs.Extremes.{least_product, greatest_product, l
 
 use super::iv::Iv;
 
-// The product of two ends.
+/// The product of two ends.
 fn product(x: i128, y: i128) -> i128
     requires x { unsigned_abs x < 2 ^ 62 }
     requires y { unsigned_abs y < 2 ^ 62 }

@@ -9,7 +9,7 @@ ghost use Rattle.fix_interval.specs.Extremes.{least_quotient, greatest_quotient}
 
 use super::iv::Iv;
 
-// `z` times 2^`shift`.
+/// `z` times 2^`shift`.
 fn scaled(z: i128, shift: u32) -> i128
     requires z { unsigned_abs z < 2 ^ 62 }
     requires shift { shift ≤ 60 }
@@ -19,7 +19,7 @@ fn scaled(z: i128, shift: u32) -> i128
     z * (1 << shift)
 }
 
-// `z` over `d`, rounded down.
+/// `z` over `d`, rounded down.
 fn floor_quotient(z: i128, d: i128) -> i128
     requires z { unsigned_abs z < 2 ^ 123 }
     requires d { pos 1 ≤ℤ d }
@@ -29,7 +29,7 @@ fn floor_quotient(z: i128, d: i128) -> i128
     z.div_euclid(d)
 }
 
-// `z` over `d`, rounded up.
+/// `z` over `d`, rounded up.
 fn ceil_quotient(z: i128, d: i128) -> i128
     requires z { unsigned_abs z < 2 ^ 123 }
     requires d { pos 1 ≤ℤ d }

@@ -6,7 +6,7 @@ ghost use Rattle.log_laws.specs.LogSum.{ratio};
 ghost use Rattle.log_laws.specs.Between.{IsBetween};
 ghost use Rattle.fix_interval.specs.Interval.{ends};
 
-// `num`*2^`bits` over `den`, rounded down, and what is left, by long division in binary digits.
+/// `num`*2^`bits` over `den`, rounded down, and what is left, by long division in binary digits.
 fn long_division(num: u128, den: u128, bits: u32) -> (u128, u128)
     requires positive { 1 ≤ den }
     requires den_fits { den < 2 ^ 127 }

@@ -165,7 +165,7 @@ fn ends_with_status_and_text(rt: HostRuntime) -> Result<(), Fail> {
 }
 
 #[test]
-fn row_one_with_failing_ends(rt: HostRuntime) -> Result<(), Fail> {
+fn flashes_with_failing_ends(rt: HostRuntime) -> Result<(), Fail> {
     let alloc = rt.alloc();
     // The flash itself runs here: its report is cut after ten bytes.
     let (status, sink) = run_in_pieces(alloc, &WORDS, TABLE, &[], &[2])?;

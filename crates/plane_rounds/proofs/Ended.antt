@@ -1,16 +1,14 @@
 -- From the end of a search to the answer of the flash.
-use Rattle.std.proofs.Common.{◌≡◌, ◌≢◌, ℕ, ◌^◌, ◌<◌, ◌≤◌, ℤ, pos, neg_ℤ, ◌≤ℤ◌, ◌<ℤ◌, unsigned_abs, ap, sym, ◌∙◌, subst, refl, arith, lit<}
+use Rattle.std.proofs.Common.{◌≡◌, ℕ, ◌^◌, ◌<◌, ◌≤◌, ℤ, neg_ℤ, unsigned_abs, ap, ◌∙◌, arith, lit<}
 use Rattle.std.proofs.lemmas.Int.{ints}
 use Rattle.log_laws.specs.Whole.{floor_over}
 use Rattle.log_laws.proofs.Ring.{floor_over-le, lt-floor_over}
 use Rattle.pr_params.proofs.Alpha.{abs_within}
 use Rattle.case_types.specs.declared.cases.Case.{Case}
 use Rattle.case_types.specs.declared.answers.Answer.{Answer}
-use Rattle.case_types.specs.declared.answers.Outcome.{Outcome}
 use Rattle.case_types.specs.declared.rounds.Column.{Column}
 use Rattle.case_types.specs.declared.units.Units.{Units}
-use Rattle.case_types.specs.Answers.{HasCause, delta_of, IsGrain}
-use Rattle.case_types.specs.Cells.{region_of}
+use Rattle.case_types.specs.Answers.{HasCause, delta_of}
 use Rattle.case_types.specs.Columns.{IsColumn}
 use Rattle.case_types.specs.Numbers.{Numbers, numbers_of}
 use Rattle.box_search.specs.declared.found.Found.{Found}

@@ -1,3 +1,4 @@
 pub mod Room
+pub mod Noted
 pub mod Following
 pub mod Planes

@@ -1,8 +1,11 @@
 //! One round: the search under a plane, and what the lists of work get.
 
-ghost use Rattle.std.specs.Prelude.{◌≡◌, ◌≤◌, ◌<◌, ◌+◌, ◌-◌, ◌^◌, ℤ, pos, ◌≤ℤ◌, length, unsigned_abs};
+ghost use Rattle.std.specs.Prelude.{◌≡◌, ◌≤◌, ◌<◌, ◌+◌, ◌-◌, ◌^◌, ◌++◌, ◌∷◌, [], ℤ, pos, ◌≤ℤ◌, length, unsigned_abs};
 ghost use Rattle.case_types.specs.Numbers.{numbers_of};
 ghost use Rattle.box_search.specs.Found.{IsFound, IsPure, IsRootOpen, low_of, units_of};
+ghost use Rattle.box_search.specs.Written.{Writes};
+ghost use Rattle.case_types.specs.declared.rounds.RoundEnd.TheVariants.{Spent};
+ghost use Rattle.plane_rounds.specs.Noted.{columns_of, end_named, round_noted};
 ghost use Rattle.plane_rounds.specs.Room.{HasRoom, IsCounted};
 
 use box_search::{Found, search};
@@ -30,6 +33,11 @@ pub fn round(
     ensures pure { IsPure result }
     ensures small { unsigned_abs (low_of result) ≤ 2 ^ 107 }
     ensures some { units_of result ≡ 1 → 1 ≤ length work.new.columns.items }
+    ensures noted { work.new.rounds.items
+        ≡ work.old.rounds.items ++ round_noted plane.now u work.old work.new.letters (end_named result) ∷ [] }
+    ensures kept { work.new.columns.items ≡ work.old.columns.items ++ columns_of result }
+    ensures letters { Writes work.old.letters work.new.letters (units.new.spent - units.old.spent) }
+    ensures pivots { work.new.pivots ≡ work.old.pivots }
     ensures budget { units.new.budget ≡ units.old.budget }
     ensures spent { units.old.spent + units_of result ≤ units.new.spent }
     ensures room { units_of result ≡ 1 → HasRoom (units.new.budget - units.new.spent) work.new }
@@ -59,6 +67,11 @@ pub fn cut_short(work: &mut Work, plane: Plane, u: i128)
     requires pivots { length work.old.pivots.items < 2 ^ 32 }
     requires letters_room { 1 ≤ work.old.letters.spare }
     requires rounds_room { 1 ≤ work.old.rounds.spare }
+    ensures noted { work.new.rounds.items
+        ≡ work.old.rounds.items ++ round_noted plane u work.old work.new.letters Spent ∷ [] }
+    ensures letter { work.new.letters.items ≡ work.old.letters.items ++ 112 ∷ [] }
+    ensures columns { work.new.columns ≡ work.old.columns }
+    ensures pivots { work.new.pivots ≡ work.old.pivots }
 {
     let from = work.letters.len() as u32;
     work.letters.push(b'p');
@@ -74,7 +87,9 @@ pub fn cut_short(work: &mut Work, plane: Plane, u: i128)
 }
 
 /// The end of a round, by its search.
-fn end_of(found: &Found) -> RoundEnd {
+fn end_of(found: &Found) -> RoundEnd
+    ensures { result ≡ end_named found.now }
+{
     match found {
         Found::AllClear { .. } => RoundEnd::Clear,
         Found::Refuted { .. } => RoundEnd::Refuted,
@@ -86,6 +101,7 @@ fn end_of(found: &Found) -> RoundEnd {
 /// Keeps the column of a search that cut its plane off.
 fn keep(columns: &mut Columns, found: &Found)
     requires { units_of found.now ≤ columns.old.spare }
+    ensures kept { columns.new.items ≡ columns.old.items ++ columns_of found.now }
     ensures longer { length columns.new.items ≡ length columns.old.items + units_of found.now }
     ensures room { columns.new.spare + units_of found.now ≡ columns.old.spare }
 {

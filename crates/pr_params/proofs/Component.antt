@@ -51,11 +51,13 @@ pub first_int : (f : Row → ℤ) (rows : List Row) (d : Row) → 0 < length row
 first_int f [] d h = absurd (omega (arith, h))
 first_int f (r ∷ rows) d h = refl
 
+-- a number that is at most 0 and at least 0
+is_none : (z : ℤ) → z ≤ℤ pos 0 → pos 0 ≤ℤ z → z ≡ pos 0
+is_none z low high = omega (arith, ints, low, high)
+
 -- a component has no interaction with itself
 pub no_interaction : (c : Case) → interaction c 0 0 ≡ pos 0
 no_interaction c =
     let all = and_true _ _ c.interactions in
     let both = and_true _ _ (and_true _ _ (and_true _ _ (and_true _ _ all.1).0).0).0 in
-    let low = int_at_most (interaction c 0 0) (pos 0) both.0 in
-    let high = int_at_most (pos 0) (interaction c 0 0) both.1 in
-    omega (arith, ints, low, high)
+    is_none (interaction c 0 0) (int_at_most (interaction c 0 0) (pos 0) both.0) (int_at_most (pos 0) (interaction c 0 0) both.1)

@@ -62,15 +62,16 @@ pub fn g_lo(params: &Params, x: &BoxX) -> i128
 }
 
 /// The least fraction of the first component, in 2^-40.
-fn fraction_lo(x: &BoxX) -> u64
+pub fn fraction_lo(x: &BoxX) -> u64
     ensures value { result ≡ slice_index x.now.a 0 }
+    ensures ordered { result ≤ slice_index x.now.b 0 }
     ensures inside { result ≤ 2 ^ 40 }
 {
     x.a[0]
 }
 
 /// The greatest fraction of the first component, in 2^-40.
-fn fraction_hi(x: &BoxX) -> u64
+pub fn fraction_hi(x: &BoxX) -> u64
     ensures value { result ≡ slice_index x.now.b 0 }
     ensures inside { result ≤ 2 ^ 40 }
 {

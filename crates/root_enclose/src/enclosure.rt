@@ -7,7 +7,7 @@ ghost use Rattle.log_laws.specs.Roots.{root_ends, square_times};
 use super::whole::isqrt;
 use fix_interval::Iv;
 
-// `num` times 4^`scale`.
+/// `num` times 4^`scale`.
 fn scaled(num: u128, scale: u32) -> u128
     requires { num * 4 ^ scale < 2 ^ 126 }
     ensures { result ≡ num * 4 ^ scale }

@@ -8,7 +8,7 @@ ghost use Rattle.case_types.specs.Bounds.{mixing_low};
 
 use case_types::BoxX;
 use log_enclose::log2_lo;
-use pr_params::Params;
+use pr_params::{Params, fraction_hi, fraction_lo};
 
 /// The mixing term of the first component, at least.
 pub fn entropy(params: &Params, x: &BoxX) -> i128
@@ -16,22 +16,6 @@ pub fn entropy(params: &Params, x: &BoxX) -> i128
     ensures small { unsigned_abs result ≤ 2 ^ 48 }
 {
     mixing(params, fraction_lo(x), fraction_hi(x))
-}
-
-/// The least fraction of the first component, in 2^-40.
-fn fraction_lo(x: &BoxX) -> u64
-    ensures value { result ≡ slice_index x.now.a 0 }
-    ensures ordered { result ≤ slice_index x.now.b 0 }
-{
-    x.a[0]
-}
-
-/// The greatest fraction of the first component, in 2^-40.
-fn fraction_hi(x: &BoxX) -> u64
-    ensures value { result ≡ slice_index x.now.b 0 }
-    ensures inside { result ≤ 2 ^ 40 }
-{
-    x.b[0]
 }
 
 /// The mixing term `x log2 x` of a fraction from `a` to `b` in 2^-40, at least.

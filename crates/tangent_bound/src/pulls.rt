@@ -5,7 +5,7 @@ ghost use Rattle.log_laws.specs.Whole.{ceil_div};
 ghost use Rattle.case_types.specs.Numbers.{numbers_of};
 ghost use Rattle.case_types.specs.Bounds.{lambda_up};
 
-use pr_params::{Params, lam_hi};
+use pr_params::{Params, lam_hi, weighed};
 
 /// The attraction term, at most, in 2^-40.
 pub fn pull(params: &Params, ratio: i128, y: u64) -> i128
@@ -17,26 +17,6 @@ pub fn pull(params: &Params, ratio: i128, y: u64) -> i128
     ensures small { unsigned_abs result ≤ 2 ^ 48 }
 {
     raised(weighed(ratio, lam_hi(params, y)), params.two_lo())
-}
-
-/// A ratio times a logarithm, in 2^-99.
-fn weighed(ratio: i128, log: i128) -> i128
-    requires ratio { unsigned_abs ratio ≤ 2 ^ 47 }
-    requires log { unsigned_abs log ≤ 2 ^ 42 }
-    ensures value { result ≡ ratio *ℤ log *ℤ pos (2 ^ 19) }
-    ensures small { unsigned_abs result ≤ 2 ^ 108 }
-{
-    product(ratio, log) * (1 << 19)
-}
-
-/// A ratio times a logarithm, in 2^-80.
-fn product(ratio: i128, log: i128) -> i128
-    requires ratio { unsigned_abs ratio ≤ 2 ^ 47 }
-    requires log { unsigned_abs log ≤ 2 ^ 42 }
-    ensures value { result ≡ ratio *ℤ log }
-    ensures small { unsigned_abs result ≤ 2 ^ 89 }
-{
-    ratio * log
 }
 
 /// A number over the root of 2, rounded up.

@@ -1,4 +1,4 @@
-use Rattle.std.proofs.Common.{◌≡◌, ◌^◌, ◌<◌, unsigned_abs, slice_index_or, pos, arith}
+use Rattle.std.proofs.Common.{arith}
 use Rattle.std.proofs.lemmas.Int.{ints}
 use Rattle.box_search.proofs.Pure.{first_small}
 use Rattle.plane_rounds.proofs.OnePhase.{plane_at_feed}

@@ -1,5 +1,6 @@
 use Rattle.std.proofs.Common.{arith}
-use Rattle.std.proofs.lemmas.Int.{ints}
+use Rattle.std.specs.Int.{w128}
+use Rattle.std.proofs.lemmas.Int.{ints, to_z-of_z}
 use Rattle.log_laws.proofs.Wide.{back}
 use Rattle.plane_rounds.proofs.rounds.round.Goals as goal
 
@@ -12,3 +13,7 @@ pub returns-clause-root : goal.returns-clause-root
 returns-clause-root c =
     let delta = back c.args.delta (omega (arith, ints, c.requires.delta_low, c.requires.delta_high)) in
     rw delta at c.search-found.ensures.root
+
+pub returns-clause-noted : goal.returns-clause-noted
+returns-clause-noted c =
+    rw (to_z-of_z w128 c.args.u c.ranges.u, c.len-columns.ensures, c.len-pivots.ensures, c.len-from.ensures, c.len.ensures, c.end_of.ensures) at c.push.ensures.items

@@ -1,4 +1,4 @@
-use Rattle.std.proofs.Common.{◌≡◌, ℕ, length, ◌≤◌, ◌<◌, ◌+◌, ◌-◌, ◌*◌, ◌^◌, ◌⊎◌, ℤ, pos, neg_ℤ, ◌<ℤ◌, unsigned_abs, to_z, of_z, ap, sym, refl, ◌∙◌, inl, inr, arith}
+use Rattle.std.proofs.Common.{◌≡◌, ℕ, length, neg_ℤ, ◌<ℤ◌, to_z, of_z, ap, sym, ◌∙◌, inl, inr, arith}
 use Rattle.std.specs.Int.{w128}
 use Rattle.std.proofs.lemmas.Int.{ints}
 use Rattle.log_laws.proofs.Wide.{back}
@@ -9,7 +9,6 @@ use Rattle.case_types.specs.Spared.{Spared}
 use Rattle.case_types.specs.Answers.{delta_of}
 use Rattle.case_types.specs.Cells.{root_region, plain_low}
 use Rattle.case_types.specs.Numbers.{numbers_of}
-use Rattle.box_search.specs.Found.{IsFound, IsRootOpen}
 use Rattle.box_search.proofs.Pure.{count_is}
 use Rattle.plane_rounds.specs.Planes.{plane_over}
 use Rattle.plane_rounds.proofs.Ended.{cost_small, follows_low, cause_of, entered}

@@ -1,0 +1,37 @@
+-- What a round leaves in the lists of work.
+use Rattle.std.specs.Prelude.{ℕ, List, [], ◌∷◌, length, ℤ}
+use Rattle.case_types.specs.Spared.{Spared}
+use Rattle.case_types.specs.declared.answers.Work.{Work}
+use Rattle.case_types.specs.declared.planes.Plane.{Plane}
+use Rattle.case_types.specs.declared.rounds.Column.{Column}
+use Rattle.case_types.specs.declared.rounds.Round.{Round}
+use Rattle.case_types.specs.declared.rounds.RoundEnd.{RoundEnd}
+use Rattle.case_types.specs.declared.rounds.RoundEnd.TheVariants as End
+use Rattle.box_search.specs.declared.found.Found.{Found}
+use Rattle.box_search.specs.declared.found.Found.TheVariants.{AllClear, Refuted, Spent, Grain}
+
+-- how the end of a search is noted
+abbrev pub end_named : Found → RoundEnd
+end_named (AllClear low) = End.Clear
+end_named (Refuted column) = End.Refuted
+end_named (Spent low) = End.Spent
+end_named (Grain low cell) = End.Grain
+
+-- the column that a search finds
+abbrev pub columns_of : Found → List Column
+columns_of (AllClear low) = []
+columns_of (Refuted column) = column ∷ []
+columns_of (Spent low) = []
+columns_of (Grain low cell) = []
+
+-- a plane with the lists before its search, and the letters after it
+abbrev pub round_noted : Plane → ℤ → Work → Spared ℕ → RoundEnd → Round
+round_noted plane u before letters end = record {
+  plane = plane;
+  u = u;
+  columns = length before.columns.items;
+  pivots = length before.pivots.items;
+  from = length before.letters.items;
+  to = length letters.items;
+  end = end;
+}

@@ -1,9 +1,0 @@
-use Rattle.std.proofs.Common.{◌^◌, lit<}
-use Rattle.pr_params.proofs.Signed.{product_at_most, product_read}
-use Rattle.tangent_bound.proofs.pulls.product.Goals as goal
-
-pub returns-clause-value : goal.returns-clause-value
-returns-clause-value c = product_read c.args.ratio c.args.log (2 ^ 47) (2 ^ 42) c.requires.ratio c.requires.log (lit< tt) (lit< tt) (lit< tt)
-
-pub returns-clause-small : goal.returns-clause-small
-returns-clause-small c = rw (returns-clause-value c) (product_at_most c.args.ratio c.args.log (2 ^ 47) (2 ^ 42) c.requires.ratio c.requires.log)
