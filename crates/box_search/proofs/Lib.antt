@@ -2,3 +2,4 @@ pub mod Narrow
 pub mod Letters
 pub mod Root
 pub mod Pure
+pub mod Trees

@@ -5,7 +5,7 @@ ghost use Rattle.std.specs.Int.{int_min};
 ghost use Rattle.case_types.specs.Cells.{Region, region_of, plain_low};
 ghost use Rattle.case_types.specs.Columns.{IsColumn, Refutes, point_of};
 ghost use Rattle.case_types.specs.Numbers.{numbers_of};
-ghost use Rattle.box_search.specs.Found.{IsFound, IsPure, IsRootOpen, low_of, units_of};
+ghost use Rattle.box_search.specs.Found.{IsFound, IsPure, AreOver, IsLowest, IsRootOpen, low_of, units_of};
 ghost use Rattle.box_search.specs.Written.{Writes, WritesSome};
 
 use crate::found::Found;
@@ -38,6 +38,7 @@ pub fn search(
     ensures pure { IsPure result }
     ensures small { unsigned_abs (low_of result) ≤ 2 ^ 107 }
     ensures root { IsRootOpen (numbers_of params.now.case) plane.now.lam delta result }
+    ensures lowest { IsLowest (numbers_of params.now.case) plane.now.lam result }
     ensures letters { Writes letters.old letters.new (units.new.spent - units.old.spent) }
     ensures budget { units.new.budget ≡ units.old.budget }
     ensures spent { units.old.spent + units_of result ≤ units.new.spent }
@@ -96,6 +97,7 @@ fn close(params: &Params, plane: &Plane, low: i128, letters: &mut Letters, mut s
     requires room { length stack + 1 ≤ letters.old.spare }
     requires small { unsigned_abs low ≤ 2 ^ 107 }
     ensures low { result ≤ℤ low }
+    ensures over { AreOver (numbers_of params.now.case) plane.now.lam result stack }
     ensures small { unsigned_abs result ≤ 2 ^ 107 }
     ensures letters { WritesSome letters.old letters.new (length stack + 1) }
 {

@@ -5,7 +5,7 @@ use Rattle.case_types.specs.declared.answers.Answer.{Answer}
 use Rattle.case_types.specs.declared.answers.Outcome.{Outcome}
 use Rattle.case_types.specs.declared.answers.Outcome.TheVariants.{Closed, Spent, Grain}
 use Rattle.case_types.specs.Bounds.{plane_at, split_up}
-use Rattle.case_types.specs.Cells.{Region, region_of, edge_length, edge_to_halve, plain_low}
+use Rattle.case_types.specs.Cells.{Region, region_of, edge_length, edge_to_halve, root_region, plain_low, IsOver}
 use Rattle.case_types.specs.Divisions.{Divides, division_of}
 use Rattle.case_types.specs.Numbers.{Numbers, numbers_of}
 
@@ -24,9 +24,11 @@ HasCause c tol budget a Closed = neg_ℤ (delta_of tol) ≤ℤ a.low
 HasCause c tol budget a Spent = (a.low <ℤ neg_ℤ (delta_of tol)) × (a.units ≡ budget)
 HasCause c tol budget a (Grain cell) = (a.low <ℤ neg_ℤ (delta_of tol)) × IsGrain (numbers_of c) a.plane.lam (delta_of tol) (region_of cell)
 
+-- the low is that of a tree of cells that starts at the whole domain
 pub record IsAnswer (c : Case) (tol budget : ℕ) (a : Answer) : Type 0 where
   pub divides : Divides c (division_of a.split)
   pub upper : a.u ≡ split_up (numbers_of c) a.split
   pub gap : a.gap ≡ (a.u -ℤ plane_at c.n a.plane.lam c.z c.total) -ℤ a.low
+  pub low : IsOver (numbers_of c) a.plane.lam a.low (root_region (numbers_of c).count)
   pub within : a.units ≤ budget
   pub cause : HasCause c tol budget a a.outcome

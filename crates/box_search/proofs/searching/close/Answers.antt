@@ -2,7 +2,10 @@ use Rattle.std.proofs.Common.{◌≡◌, ◌+◌, ◌-◌, ◌∙◌, ◌^◌, p
 use Rattle.std.proofs.lemmas.Int.{ints}
 use Rattle.log_laws.proofs.Wide.{back}
 use Rattle.pr_params.proofs.Alpha.{abs_within}
-use Rattle.box_search.proofs.Letters.{one_more}
+use Rattle.case_types.specs.Cells.{region_of}
+use Rattle.case_types.specs.Numbers.{numbers_of}
+use Rattle.box_search.proofs.Letters.{no_more, one_more}
+use Rattle.box_search.proofs.Trees.{leads_leaf, leads_none}
 use Rattle.box_search.proofs.searching.close.Goals as goal
 
 pub loop-cell-preserved : goal.loop-cell-preserved
@@ -14,10 +17,32 @@ loop-cell-preserved c =
     let count : length c.args.stack - length c.loop-cell.stack + 1 + 1 ≡ length c.args.stack - length c.pop.new.self + 1 = omega (arith, n, old.left) in
     let above = c.smaller-low.ensures.either (neg_ℤ (pos (2 ^ 107))) (omega (arith, ints, old.small)) (omega (arith, ints, c.low_plain.ensures.small)) in
     let size = abs_within c.smaller-low.result (2 ^ 107) above (omega (arith, ints, old.small, c.smaller-low.ensures.first)) in
+    let read = back c.smaller-low.result (omega (arith, size)) in
     record {
       low = omega (arith, ints, old.low, c.smaller-low.ensures.first);
+      over =
+          rw read
+          (leads_leaf (numbers_of c.args.params.now.case) c.args.plane.now.lam c.smaller-low.result c.low_plain.result
+          (region_of c.in-Some.cell) c.loop-cell.stack c.pop.new.self c.args.stack
+          c.in-Some.ensures.some c.low_plain.ensures.value (omega (arith, ints, c.smaller-low.ensures.first)) (omega (arith, ints, c.smaller-low.ensures.second, c.low_plain.ensures.small)) old.over);
       small = rw (back c.smaller-low.result (omega (arith, size))) size;
       letters = rw count at more;
       left = omega (arith, n, old.left);
       room = omega (arith, n, old.room, c.push-in-Some.ensures.room);
     }
+
+pub loop-cell-init : goal.loop-cell-init
+loop-cell-init c =
+    let old = c.args.letters.now in
+    let none : length c.args.stack - length c.args.stack + 1 ≡ 0 + 1 = omega arith in
+    record {
+      low = omega (arith, ints);
+      over = λ l h all. all;
+      small = rw (back c.args.low (omega (arith, c.requires.small))) c.requires.small;
+      letters = rw none (one_more old old c.push.new.self 0 112 (no_more old) c.push.ensures.items c.push.ensures.room);
+      left = omega arith;
+      room = omega (arith, c.requires.room, c.push.ensures.room);
+    }
+
+pub returns-clause-over : goal.returns-clause-over
+returns-clause-over c = leads_none (numbers_of c.args.params.now.case) c.args.plane.now.lam c.loop-cell.stack c.args.stack c.in_default.ensures.none c.loop-cell.invariant.over

@@ -9,6 +9,7 @@ use Rattle.box_search.proofs.Letters.{no_more, one_more, then_more, writes}
 use Rattle.box_search.proofs.Narrow.{narrow_root, narrow_rest, narrow_halves}
 use Rattle.box_search.proofs.Pure.{count_is, packing_named, not_one}
 use Rattle.box_search.proofs.Root.{begun_rest, root_open}
+use Rattle.box_search.proofs.Trees.{leads_first, leads_leaf, leads_halves, leads_none, leads_close}
 use Rattle.box_search.proofs.searching.search.Goals as goal
 use Rattle.box_search.proofs.searching.search.Goals.{Else-here-delta, After-cell-else-is_spent-2-1}
 
@@ -37,6 +38,7 @@ loop-cell-init c =
     record {
       narrow = rw (c.new-stack.ensures, c.requires.one) narrow_root;
       begun = inl first;
+      over = leads_first (numbers_of c.args.params.now.case) c.args.plane.now.lam (pos (2 ^ 107)) c.new-stack.result first;
       low = omega (arith, ints, c.requires.delta_low, c.requires.delta_high);
       high = omega (arith, ints);
       budget = refl;
@@ -59,6 +61,11 @@ loop-cell-preserved-then-here-delta c =
     record {
       narrow = narrow_rest (region_of c.in-Some.cell) c.pop.new.self (rw e at old.narrow);
       begun = begun_rest (numbers_of c.args.params.now.case) c.args.plane.now.lam (to_z w128 (of_z w128 c.args.delta)) (region_of c.in-Some.cell) c.loop-cell.stack c.pop.new.self e old.begun;
+      over =
+          rw (back c.smaller-low.result (omega (arith, ints, either, old.high, c.smaller-low.ensures.first, c.requires.delta_low, c.requires.delta_high)))
+          (leads_leaf (numbers_of c.args.params.now.case) c.args.plane.now.lam c.smaller-low.result c.low_plain-here.result
+          (region_of c.in-Some.cell) c.loop-cell.stack c.pop.new.self (root_region (numbers_of c.args.params.now.case).count ∷ [])
+          e c.low_plain-here.ensures.value (omega (arith, ints, c.smaller-low.ensures.first)) (omega (arith, ints, c.smaller-low.ensures.second, c.low_plain-here.ensures.small)) old.over);
       low = omega (arith, ints, either);
       high = omega (arith, ints, old.high, c.smaller-low.ensures.first);
       budget = old.budget;
@@ -101,6 +108,9 @@ loop-cell-preserved c =
     record {
       narrow = rw c.push_halves.ensures narrow.1;
       begun = rw (delta_read here.Else-here-delta) (inr (inr (root_not_clear here.Else-here-delta)));
+      over =
+          leads_halves (numbers_of c.args.params.now.case) c.args.plane.now.lam 3 (region_of c.in-Some.cell)
+          c.loop-cell.stack c.pop.new.self c.push_halves.new.self (root_region (numbers_of c.args.params.now.case).count ∷ []) e c.push_halves.ensures old.over;
       low = old.low;
       high = old.high;
       budget = c.spend-else-is_spent-2.ensures.budget ∙ old.budget;
@@ -192,3 +202,32 @@ returns-in-Some-refuting-clause-letters c =
     let spent = c.loop-cell.units.spent - c.args.units.now.spent in
     writes c.args.letters.now c.loop-cell.letters (2 * spent + 1 - length c.loop-cell.stack) (c.spend.new.self.spent - c.args.units.now.spent) old.letters
     (omega (arith, c.spend.ensures.spent, old.spent))
+
+pub returns-then-is_spent-clause-lowest : goal.returns-then-is_spent-clause-lowest
+returns-then-is_spent-clause-lowest c =
+    rw (back c.close-low.result (omega (arith, c.close-low.ensures.small)))
+    (leads_close (numbers_of c.args.params.now.case) c.args.plane.now.lam c.low_plain-here.result (region_of c.in-Some.cell) c.loop-cell.stack c.pop.new.self
+    (root_region (numbers_of c.args.params.now.case).count ∷ []) c.in-Some.ensures.some c.low_plain-here.ensures.value
+    (omega (arith, ints, c.smaller.ensures.first, c.close-low.ensures.low)) (omega (arith, ints, c.smaller.ensures.second, c.close-low.ensures.low, c.low_plain-here.ensures.small))
+    c.close-low.ensures.over c.loop-cell.invariant.over).0
+
+pub returns-then-is_unit-clause-lowest : goal.returns-then-is_unit-clause-lowest
+returns-then-is_unit-clause-lowest c =
+    rw (back c.close-low-then-is_unit.result (omega (arith, c.close-low-then-is_unit.ensures.small)))
+    (leads_close (numbers_of c.args.params.now.case) c.args.plane.now.lam c.low_plain-here.result (region_of c.in-Some.cell) c.loop-cell.stack c.pop.new.self
+    (root_region (numbers_of c.args.params.now.case).count ∷ []) c.in-Some.ensures.some c.low_plain-here.ensures.value
+    (omega (arith, ints, c.smaller-then-is_unit.ensures.first, c.close-low-then-is_unit.ensures.low)) (omega (arith, ints, c.smaller-then-is_unit.ensures.second, c.close-low-then-is_unit.ensures.low, c.low_plain-here.ensures.small))
+    c.close-low-then-is_unit.ensures.over c.loop-cell.invariant.over).0
+
+pub returns-then-is_spent-2-clause-lowest : goal.returns-then-is_spent-2-clause-lowest
+returns-then-is_spent-2-clause-lowest c =
+    rw (back c.close-low-then-is_spent-2.result (omega (arith, c.close-low-then-is_spent-2.ensures.small)))
+    (leads_close (numbers_of c.args.params.now.case) c.args.plane.now.lam c.low_plain-here.result (region_of c.in-Some.cell) c.loop-cell.stack c.pop.new.self
+    (root_region (numbers_of c.args.params.now.case).count ∷ []) c.in-Some.ensures.some c.low_plain-here.ensures.value
+    (omega (arith, ints, c.smaller-then-is_spent-2.ensures.first, c.close-low-then-is_spent-2.ensures.low)) (omega (arith, ints, c.smaller-then-is_spent-2.ensures.second, c.close-low-then-is_spent-2.ensures.low, c.low_plain-here.ensures.small))
+    c.close-low-then-is_spent-2.ensures.over c.loop-cell.invariant.over).0
+
+pub returns-clause-lowest : goal.returns-clause-lowest
+returns-clause-lowest c =
+    (leads_none (numbers_of c.args.params.now.case) c.args.plane.now.lam c.loop-cell.stack (root_region (numbers_of c.args.params.now.case).count ∷ [])
+    c.in_default.ensures.none c.loop-cell.invariant.over).0

@@ -10,8 +10,9 @@ use Rattle.case_types.specs.Answers.{delta_of}
 use Rattle.case_types.specs.Cells.{root_region, plain_low}
 use Rattle.case_types.specs.Numbers.{numbers_of}
 use Rattle.box_search.proofs.Pure.{count_is}
+use Rattle.box_search.proofs.Trees.{leaf_over}
 use Rattle.plane_rounds.specs.Planes.{plane_over}
-use Rattle.plane_rounds.proofs.Ended.{cost_small, follows_low, cause_of, entered}
+use Rattle.plane_rounds.proofs.Ended.{cost_small, follows_low, lowest_of, cause_of, entered}
 use Rattle.plane_rounds.proofs.top.flash_tp.Goals as goal
 use Rattle.plane_rounds.proofs.top.flash_tp.Goals.{After-round-found, In-Enters}
 
@@ -40,6 +41,7 @@ returns-in-Ends-clause-answer c =
       divides = answer.divides;
       upper = answer.upper;
       gap = answer.gap;
+      low = rw (answer.low, ap (λ (p : Plane). p.lam) answer.plane) (lowest_of (numbers_of case) c.plane_of-plane.result.lam c.round-found.result c.in-Ends.ending c.in-Ends.ensures c.round-found.ensures.lowest);
       within = omega (arith, answer.units, units.within, whole);
       cause =
           rw answer.outcome
@@ -69,11 +71,16 @@ returns-then-is_spent-clause-answer c =
     let spent = c.is_spent.ensures.0 c.if-is_spent.true in
     let value = rw (c.plane_of-plane-then-is_spent.ensures, c.root.ensures) at c.low_plain-low.ensures.value in
     let region = ap (λ (n : ℕ). plain_low (numbers_of case) (plane_over c.first_column-first.result) (root_region n)) (count_is case) in
+    let read = back c.low_plain-low.result (omega (arith, c.low_plain-low.ensures.small)) in
     let below : c.low_plain-low.result <ℤ neg_ℤ (delta_of c.args.tol) = rw (value ∙ sym region) (first_open here) in
     record {
       divides = answer.divides;
       upper = answer.upper;
       gap = answer.gap;
+      low =
+          rw (answer.low, read, ap (λ (p : Plane). p.lam) answer.plane, c.plane_of-plane-then-is_spent.ensures)
+          (leaf_over (numbers_of case) (plane_over c.first_column-first.result) c.low_plain-low.result (root_region (numbers_of case).count)
+          (rw (value ∙ sym region) (omega (arith, ints))));
       within = omega (arith, answer.units, units.within, whole);
       cause = rw (answer.outcome, answer.low, answer.units) (omega (arith, ints, below, c.low_plain-low.ensures.small), spent ∙ whole);
     }
