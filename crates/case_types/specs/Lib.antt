@@ -13,3 +13,4 @@ pub mod Cells
 pub mod Columns
 pub mod Answers
 pub mod Weighing
+pub mod Holding
