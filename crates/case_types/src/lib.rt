@@ -8,6 +8,7 @@
 mod answers;
 mod cases;
 mod cells;
+mod laws;
 mod lists;
 mod phases;
 mod pivots;
@@ -18,6 +19,7 @@ mod units;
 pub use answers::{Answer, FlashFault, Outcome, Work};
 pub use cases::{Case, Name, PAIRS, ParamFault, Row, SLOTS};
 pub use cells::{BoxX, Cell};
+pub use laws::{trees_cover, weak_duality};
 pub use lists::{Columns, Letters, Memory, Pivots, Reserved, Rounds};
 pub use phases::{Phase, Split};
 pub use pivots::Pivot;
