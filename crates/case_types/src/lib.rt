@@ -5,6 +5,7 @@
 //! energy are, what it means that an answer is certified, and the whole numbers that bounds of energies are made of.
 #![tactic(auto)]
 
+mod adding;
 mod answers;
 mod cases;
 mod cells;
@@ -16,6 +17,7 @@ mod planes;
 mod rounds;
 mod units;
 
+pub use adding::adds_up;
 pub use answers::{Answer, FlashFault, Outcome, Work};
 pub use cases::{Case, Name, PAIRS, ParamFault, Row, SLOTS};
 pub use cells::{BoxX, Cell};

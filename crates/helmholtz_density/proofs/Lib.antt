@@ -1,2 +1,3 @@
 pub mod Mixes
 pub mod Energy
+pub mod Shares

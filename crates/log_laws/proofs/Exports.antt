@@ -18,6 +18,8 @@ pub use Rattle.log_laws.proofs.Opposite.{at_most_is_opposite, at_least_powers, a
 pub use Rattle.log_laws.proofs.Weighing.{at_least_weighs}
 pub use Rattle.log_laws.proofs.Indexed.{at_least_sums, parts_sum_below}
 pub use Rattle.log_laws.proofs.Terms.{over_den, lowered, at_least_adds_at, constant_at_least, at_least_constant, dens_of}
+pub use Rattle.log_laws.proofs.Uppers.{at_most_adds, at_most_scales, at_most_raises, heightened, at_most_adds_at, constant_at_most}
+
 -- ---- single logarithms, their quotients, and the logarithm of e
 pub use Rattle.log_laws.proofs.Arguments.{at_least_takes_larger, at_least_multiplies, at_least_merges}
 pub use Rattle.log_laws.proofs.Terms.{one, quotient_at_least, minus_log, minus_log_quotient, bounds_ordered}

@@ -19,5 +19,6 @@ pub mod Arguments
 pub mod LogsOfE
 pub mod Quotients
 pub mod Lowest
+pub mod Uppers
 pub mod Exports
 mod ByNumbers
