@@ -16,7 +16,7 @@ and_true false b t = absurd (cc t)
 pub at_most : (a b : ℕ) → IsTrue (nat_le a b) → a ≤ b
 at_most a b h = grind (arith, h)
 
-int_at_most : (a b : ℤ) → IsTrue (int_le a b) → a ≤ℤ b
+pub int_at_most : (a b : ℤ) → IsTrue (int_le a b) → a ≤ℤ b
 int_at_most a b h = grind (arith, ints, h)
 
 -- what a case says of its one component
