@@ -11,3 +11,4 @@ pub mod Signed
 pub mod Mean
 pub mod Below
 pub mod Components
+pub mod Right
