@@ -12,3 +12,5 @@ pub mod Mean
 pub mod Below
 pub mod Components
 pub mod Right
+pub mod AtComponents
+pub mod Enclosed
