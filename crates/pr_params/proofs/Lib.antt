@@ -14,3 +14,4 @@ pub mod Components
 pub mod Right
 pub mod AtComponents
 pub mod Enclosed
+pub mod Attracted
