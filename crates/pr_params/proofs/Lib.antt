@@ -15,3 +15,4 @@ pub mod Right
 pub mod AtComponents
 pub mod Enclosed
 pub mod Attracted
+pub mod ParametersHold

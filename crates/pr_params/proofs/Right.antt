@@ -17,6 +17,7 @@ use Rattle.case_types.specs.Tables.{ends_at, no_ends}
 use Rattle.pr_params.proofs.Below.{get_or-list_below}
 use Rattle.pr_params.proofs.Component.{IsComponent}
 use Rattle.pr_params.proofs.Components.{component_at}
+use Rattle.pr_params.proofs.Faulted.{lt_yes}
 
 -- ---- a root of at least 1 and below 2 ^ 64
 some_root : (r n den : ℕ) → den ≤ n → n < (r + 1) * (r + 1) * den → 0 < r
@@ -60,7 +61,7 @@ product_holds a b al ah bl bh =
     root_holds (a * b) 1 32 (omega arith) (omega (arith, low)) (omega (arith, high))
 
 live : (j n : ℕ) (v : Ends) → j < n → cond (nat_lt j n) v no_ends ≡ v
-live j n v h = let e : nat_lt j n ≡ true = grind (arith, h) in rw e refl
+live j n v h = rw (lt_yes j n h) refl
 
 pair_holds : (c : Case) (i j : ℕ) → i < j → j < c.n →
     HoldsRoot (pressure_root_ends c i j) (critical_pressure c i * critical_pressure c j) 1 32

@@ -36,7 +36,7 @@ in_range x y d e =
       ]
     ]
 
-not_less : (a b : ℤ) → int_lt a b ≡ false → b ≤ℤ a
+pub not_less : (a b : ℤ) → int_lt a b ≡ false → b ≤ℤ a
 not_less a b e = grind (arith, ints, e)
 
 -- the covolume lies between 2^-24 and 32, the root of alpha above 2^-10, the attraction at most 128 times the covolume
