@@ -16,3 +16,4 @@ pub mod AtComponents
 pub mod Enclosed
 pub mod Attracted
 pub mod ParametersHold
+pub mod MeansHold

@@ -1,0 +1,131 @@
+-- The means of a phase of one component lie between the ends of the box that holds it.
+use Rattle.std.proofs.Common.{◌≡◌, ℕ, ◌+◌, ◌*◌, ◌/◌, ◌^◌, ◌<◌, ◌≤◌, ℤ, pos, ◌*ℤ◌, ◌≤ℤ◌, refl, sym, subst, ◌∙◌, ap, arith, lit<, Option, None, slice_index}
+use Rattle.std.specs.Int.{int_min, int_max}
+use Rattle.std.proofs.lemmas.Int.{ints, clamps}
+use Rattle.std.proofs.lemmas.Nat.{pow-add, pow_pos}
+use Rattle.std.proofs.Math.Nat.{mul-le-mul, mul-le-mul_left, mul-le-mul_right, le_of_mul-le-mul_right, div-mul-le_self}
+use Rattle.log_laws.specs.Between.{Ends, IsBetween}
+use Rattle.log_laws.specs.Fraction.{Fraction, IsSame, IsAtMost, whole, sum_of, product_of, quotient_of}
+use Rattle.log_laws.specs.LogSum.{ratio}
+use Rattle.log_laws.specs.Whole.{ceil_quotient}
+use Rattle.log_laws.proofs.Parts.{IsParts, parts_self, parts_ratio, parts_product, same_of_parts, product_pos}
+use Rattle.log_laws.proofs.Ring.{ceil_over-pos}
+use Rattle.log_laws.proofs.Terms.{parts_zero_plus}
+use Rattle.fix_interval.proofs.Between.{IsBetween-same}
+use Rattle.case_types.specs.declared.cases.Case.{Case}
+use Rattle.case_types.specs.Bounds.{Box, one, covolume_range, ratio_low, ratio_high}
+use Rattle.case_types.specs.Divisions.{State, moles, bits, mole_fraction, mean_covolume, mean_attraction}
+use Rattle.case_types.specs.Faults.{fault_of}
+use Rattle.case_types.specs.Holding.{HoldsParameters, IsInBox, HoldsMeans, attraction_ratio}
+use Rattle.case_types.specs.Instances.{Instance}
+use Rattle.case_types.specs.Numbers.{Numbers, numbers_of}
+use Rattle.case_types.specs.Parameters.{covolume, attraction}
+use Rattle.case_types.specs.Sums.{fraction_sum_below}
+use Rattle.case_types.specs.Tables.{ends_at, ends_of_pair}
+use Rattle.pr_params.proofs.Accepted.{covolume_sizes, attraction_positive, rho_one}
+use Rattle.pr_params.proofs.Attracted.{IsAmong, by_among, le-ceiling}
+use Rattle.pr_params.proofs.Mean.{range_is, attraction_high_one, attraction_low_one, ratio_high_is, ratio_low_is}
+use Rattle.pr_params.proofs.One.{numbers_one}
+use Rattle.pr_params.specs.One.{covolume_one, attraction_one, ratio_one}
+
+-- ---- the mean over one component is the value of that component
+mean_same : (p m : ℕ) (f : Fraction) → m ≡ p → 0 < p → 0 < f.den → IsSame f (sum_of (whole (pos 0)) (product_of (ratio p m) f))
+mean_same p m f e h g =
+    let all : 0 < m = omega (arith, e, h) in
+    let a = parts_self f.num f.den g in
+    let b = parts_product (parts_ratio p m all) a in
+    let c = parts_zero_plus (parts_self (pos 0) 1 (lit< tt)) b in
+    same_of_parts a c (rw e (omega arith))
+
+mean_between : (v : Ends) (s p m : ℕ) (f : Fraction) → m ≡ p → 0 < p → IsBetween v s f → IsBetween v s (sum_of (whole (pos 0)) (product_of (ratio p m) f))
+mean_between v s p m f e h k =
+    IsBetween-same v s f (sum_of (whole (pos 0)) (product_of (ratio p m) f))
+    (let all : 0 < m = omega (arith, e, h) in let q = product_pos m f.den all k.is_fraction in omega (arith, q)) (mean_same p m f e h k.is_fraction) k
+
+-- the means over the first n components
+abbrev covolume_mean : Case → State → ℕ → Fraction
+covolume_mean c f n = fraction_sum_below n (λ i. product_of (mole_fraction n f i) (covolume c i))
+
+abbrev attraction_mean : Case → Instance → State → ℕ → Fraction
+attraction_mean c x f n =
+    fraction_sum_below n (λ i. product_of (mole_fraction n f i) (fraction_sum_below n (λ j. product_of (mole_fraction n f j) (attraction c x i j))))
+
+covolume_mean_one : (c : Case) (f : State) (v : Ends) (s : ℕ) → 0 < moles 1 f → IsBetween v s (covolume c 0) → IsBetween v s (covolume_mean c f 1)
+unfolding fraction_sum_below
+covolume_mean_one c f v s h k = mean_between v s (f.parts 0) (moles 1 f) (covolume c 0) (omega arith) (omega (arith, h)) k
+
+attraction_mean_one : (c : Case) (x : Instance) (f : State) (v : Ends) (s : ℕ) → 0 < moles 1 f → IsBetween v s (attraction c x 0 0) → IsBetween v s (attraction_mean c x f 1)
+unfolding fraction_sum_below
+attraction_mean_one c x f v s h k =
+    let inner = mean_between v s (f.parts 0) (moles 1 f) (attraction c x 0 0) (omega arith) (omega (arith, h)) k in
+    mean_between v s (f.parts 0) (moles 1 f) _ (omega arith) (omega (arith, h)) inner
+
+mean_covolume_between : (c : Case) (f : State) (v : Ends) (s : ℕ) → c.n ≡ 1 → 0 < moles c.n f → IsBetween v s (covolume c 0) → IsBetween v s (mean_covolume c f)
+mean_covolume_between c f v s h m k =
+    subst (λ n. IsBetween v s (covolume_mean c f n)) (sym h) (covolume_mean_one c f v s (subst (λ n. 0 < moles n f) h m) k)
+
+mean_attraction_between : (c : Case) (x : Instance) (f : State) (v : Ends) (s : ℕ) → c.n ≡ 1 → 0 < moles c.n f → IsBetween v s (attraction c x 0 0) →
+    IsBetween v s (mean_attraction c x f)
+mean_attraction_between c x f v s h m k =
+    subst (λ n. IsBetween v s (attraction_mean c x f n)) (sym h) (attraction_mean_one c x f v s (subst (λ n. 0 < moles n f) h m) k)
+
+-- ---- a box that holds the one composition
+-- its ends lie on either side of 1
+record IsAboutOne (box : Box) : Type 0 where
+  pub low : slice_index box.lo 0 ≤ one
+  pub high : one ≤ slice_index box.hi 0
+
+about_one : (n : ℕ) (box : Box) (f : State) → n ≡ 1 → 0 < moles n f → IsInBox n box f → IsAboutOne box
+about_one n box f h m k = at_one (subst (λ n. 0 < moles n f) h m) (subst (λ n. IsInBox n box f) h k)
+  where
+    at_one : 0 < moles 1 f → IsInBox 1 box f → IsAboutOne box
+    at_one m k =
+        let above = k.above 0 (lit< tt) in
+        let below = k.below 0 (lit< tt) in
+        let some : 0 < f.parts 0 = omega (arith, m) in
+        let above' : slice_index box.lo 0 * f.parts 0 ≤ one * f.parts 0 = omega (arith, above) in
+        let below' : one * f.parts 0 ≤ slice_index box.hi 0 * f.parts 0 = omega (arith, below) in
+        record { low = le_of_mul-le-mul_right above' some; high = le_of_mul-le-mul_right below' some }
+
+-- ---- the attraction over the co-volume
+-- a fraction of at most 1 lowers, one of at least 1 raises
+lowered_by : (x n : ℕ) → x ≤ one → x * (x * n / one) / one ≤ n
+lowered_by x n h = let p = mul-le-mul_right n h in let q = mul-le-mul_right (x * n / one) h in omega (arith, p, q)
+
+raised_by : (x n : ℕ) → one ≤ x → n ≤ ceil_quotient (x * ceil_quotient (x * n) one) one
+raised_by x n h =
+    let p = mul-le-mul_right n h in
+    let inner = le-ceiling (x * n) one (lit< tt) in
+    let q = mul-le-mul_right (ceil_quotient (x * n) one) h in
+    let outer = le-ceiling (x * ceil_quotient (x * n) one) one (lit< tt) in
+    omega (arith, p, inner, q, outer)
+
+-- a floor of ends on the low side is at most the quotient
+quotient_above : (m n b lift au ad bu bd : ℕ) → m ≤ n → n * ad ≤ au * 2 ^ (49 + lift) → bu * 2 ^ (56 + lift) ≤ b * bd →
+    m * 2 ^ 47 / b * (ad * bu) ≤ au * bd * 2 ^ 40
+quotient_above m n b lift au ad bu bd e h k =
+    let r = m * 2 ^ 47 / b in
+    let floor = div-mul-le_self (m * 2 ^ 47) b in
+    let h' : n * ad ≤ au * (2 ^ 49 * 2 ^ lift) = rw (pow-add 2 49 lift) at h in
+    let k' : bu * (2 ^ 56 * 2 ^ lift) ≤ b * bd = rw (pow-add 2 56 lift) at k in
+    let p = mul-le-mul_left (r * ad) k' in
+    let q = mul-le-mul_right (ad * bd) floor in
+    let s = mul-le-mul_right (ad * bd) e in
+    let t = mul-le-mul_right bd h' in
+    let l : r * (ad * bu) * 2 ^ lift ≤ au * bd * 2 ^ 40 * 2 ^ lift = omega (arith, p, q, s, t) in
+    le_of_mul-le-mul_right l (pow_pos lift)
+
+-- a ceiling of ends on the high side is at least the quotient
+quotient_below : (m n b lift au ad bu bd : ℕ) → 0 < b → n ≤ m → au * 2 ^ (49 + lift) ≤ n * ad → b * bd ≤ bu * 2 ^ (56 + lift) →
+    au * bd * 2 ^ 40 ≤ ceil_quotient (m * 2 ^ 47) b * (ad * bu)
+quotient_below m n b lift au ad bu bd some e h k =
+    let r = ceil_quotient (m * 2 ^ 47) b in
+    let ceil = le-ceiling (m * 2 ^ 47) b some in
+    let h' : au * (2 ^ 49 * 2 ^ lift) ≤ n * ad = rw (pow-add 2 49 lift) at h in
+    let k' : b * bd ≤ bu * (2 ^ 56 * 2 ^ lift) = rw (pow-add 2 56 lift) at k in
+    let p = mul-le-mul_left (r * ad) k' in
+    let q = mul-le-mul_right (ad * bd) ceil in
+    let s = mul-le-mul_right (ad * bd) e in
+    let t = mul-le-mul_right bd h' in
+    let l : au * bd * 2 ^ 40 * 2 ^ lift ≤ r * (ad * bu) * 2 ^ lift = omega (arith, p, q, s, t) in
+    le_of_mul-le-mul_right l (pow_pos lift)
