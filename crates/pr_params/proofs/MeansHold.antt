@@ -1,5 +1,6 @@
 -- The means of a phase of one component lie between the ends of the box that holds it.
-use Rattle.std.proofs.Common.{◌≡◌, ℕ, ◌+◌, ◌*◌, ◌/◌, ◌^◌, ◌<◌, ◌≤◌, ℤ, pos, ◌*ℤ◌, ◌≤ℤ◌, refl, sym, subst, ◌∙◌, ap, arith, lit<, Option, None, slice_index}
+use Rattle.std.proofs.Common.{◌≡◌, ℕ, ◌+◌, ◌*◌, ◌/◌, ◌^◌, ◌<◌, ◌≤◌, ℤ, pos, ◌*ℤ◌, ◌≤ℤ◌, Bool, true, false, cond, refl, sym, subst, ◌∙◌, ap, arith, lit<, None, slice_index}
+use Rattle.std.specs.Prelude.{int_lt}
 use Rattle.std.specs.Int.{int_min, int_max}
 use Rattle.std.proofs.lemmas.Int.{ints, clamps}
 use Rattle.std.proofs.lemmas.Nat.{pow-add, pow_pos}
@@ -129,3 +130,70 @@ quotient_below m n b lift au ad bu bd some e h k =
     let t = mul-le-mul_right bd h' in
     let l : au * bd * 2 ^ 40 * 2 ^ lift ≤ r * (ad * bu) * 2 ^ lift = omega (arith, p, q, s, t) in
     le_of_mul-le-mul_right l (pow_pos lift)
+
+-- a fact of two numbers holds of the lesser
+of_lesser : (P : ℤ → Type 0) (a b : ℤ) → P a → P b → P (int_min a b)
+of_lesser P a b pa pb = either (int_lt b a)
+  where
+    either : (t : Bool) → P (cond t b a)
+    either true = pb
+    either false = pa
+
+-- the attraction over the co-volume of the one component is at least the low ratio and at most the high ratio
+record HoldsRatio (c : Case) (box : Box) (f : Fraction) : Type 0 where
+  pub low : IsAtMost (bits (ratio_low (numbers_of c) box)) f
+  pub high : IsAtMost f (bits (ratio_high (numbers_of c) box))
+
+ratio_at : (c : Case) (box : Box) (n n' b b' au ad bu bd : ℕ) → c.n ≡ 1 → fault_of c ≡ None → IsAboutOne box →
+    attraction_one c ≡ record { lo = pos n; hi = pos n' } → covolume_one c ≡ record { lo = pos b; hi = pos b' } → 0 < b →
+    IsAmong n n' (2 ^ (49 + (numbers_of c).lift)) au ad → IsAmong b b' (2 ^ (56 + (numbers_of c).lift)) bu bd → HoldsRatio c box (ratio (au * bd) (ad * bu))
+unfolding ratio_one
+ratio_at c box n n' b b' au ad bu bd h e o ea eb some ka kb =
+    let p = numbers_of c in
+    let range = range_is c box h e ∙ eb in
+    let xl = slice_index box.lo 0 in
+    let xh = slice_index box.hi 0 in
+    let m = xl * (xl * n / one) / one in
+    let m' = ceil_quotient (xh * ceil_quotient (xh * n') one) one in
+    let low : ratio_low p box ≡ pos (m * 2 ^ 47 / b') =
+    ratio_low_is p box m b' (attraction_low_one c box n h (sym (ap (λ (v : Ends). v.lo) ea))) (ap (λ (v : Ends). v.hi) range) in
+    let high : ratio_high p box ≡ int_min (pos (ceil_quotient (m' * 2 ^ 47) b)) p.rho =
+    ratio_high_is p box m' b some (attraction_high_one c box n' h (sym (ap (λ (v : Ends). v.hi) ea))) (ap (λ (v : Ends). v.lo) range) in
+    let rho : p.rho ≡ pos (ceil_quotient (n' * 2 ^ 47) b) =
+    rho_one c h ∙ (rw (ea, eb, ceil_over-pos (n' * 2 ^ 47) b some) (omega (arith, ints, clamps))) in
+    let above = quotient_above m n b' p.lift au ad bu bd (lowered_by xl n o.low) ka.above kb.below in
+    let below = quotient_below m' n' b p.lift au ad bu bd some (raised_by xh n' o.high) ka.below kb.above in
+    let below' = quotient_below n' n' b p.lift au ad bu bd some (omega arith) ka.below kb.above in
+    record {
+      low = rw low (omega (arith, ints, above));
+      high = rw (high, rho)
+          (of_lesser (λ z. IsAtMost (ratio (au * bd) (ad * bu)) (bits z)) (pos (ceil_quotient (m' * 2 ^ 47) b)) (pos (ceil_quotient (n' * 2 ^ 47) b))
+          (omega (arith, ints, below)) (omega (arith, ints, below')));
+    }
+
+ratio_held : (c : Case) (box : Box) (a b : Fraction) → c.n ≡ 1 → fault_of c ≡ None → IsAboutOne box →
+    IsBetween (attraction_one c) (2 ^ (49 + (numbers_of c).lift)) a → IsBetween (covolume_one c) (2 ^ (56 + (numbers_of c).lift)) b → HoldsRatio c box (quotient_of a b)
+ratio_held c box a b h e o ka kb =
+    let lift = (numbers_of c).lift in
+    let size = (covolume_sizes c h e).0 in
+    by_among (λ v a. attraction_one c ≡ v → HoldsRatio c box (quotient_of a b)) (attraction_one c) (2 ^ (49 + lift)) a (attraction_positive c h e) ka (pow_pos (49 + lift))
+    (λ n n' au ad _ among ea.
+    by_among (λ w b. covolume_one c ≡ w → HoldsRatio c box (quotient_of (ratio au ad) b)) (covolume_one c) (2 ^ (56 + lift)) b (omega (arith, ints, size)) kb (pow_pos (56 + lift))
+    (λ m m' bu bd low among' eb.
+    ratio_at c box n n' m m' au ad bu bd h e o ea eb (let s = rw low at size in omega (arith, ints, s)) among among')
+    refl)
+    refl
+
+-- ---- the means of a phase
+pub holds_means : (c : Case) (x : Instance) (box : Box) (f : State) → c.n ≡ 1 → fault_of c ≡ None → HoldsParameters c (numbers_of c) x →
+    IsInBox c.n box f → 0 < moles c.n f → HoldsMeans c (numbers_of c) x box f
+holds_means c x box f h e k inside some =
+    let p = numbers_of c in
+    let is = numbers_one c h in
+    let b : IsBetween (covolume_one c) (2 ^ (56 + p.lift)) (covolume c 0) = rw (ap (λ (q : Numbers). ends_at q.covolumes 0) is) at (k.covolume 0 c.some) in
+    let a : IsBetween (attraction_one c) (2 ^ (49 + p.lift)) (attraction c x 0 0) =
+    rw (ap (λ (q : Numbers). ends_of_pair q.attractions 0 0) is) at (k.attraction 0 0 c.some c.some) in
+    let mean_b = mean_covolume_between c f (covolume_one c) (2 ^ (56 + p.lift)) h some b in
+    let mean_a = mean_attraction_between c x f (attraction_one c) (2 ^ (49 + p.lift)) h some a in
+    let held = ratio_held c box (mean_attraction c x f) (mean_covolume c f) h e (about_one c.n box f h some inside) mean_a mean_b in
+    record { covolume = rw (range_is c box h e) mean_b; ratio_low = held.low; ratio_high = held.high }
