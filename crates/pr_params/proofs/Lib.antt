@@ -17,3 +17,4 @@ pub mod Enclosed
 pub mod Attracted
 pub mod ParametersHold
 pub mod MeansHold
+pub mod GreatestLift

@@ -18,8 +18,8 @@ use Rattle.case_types.specs.Bounds.{Box, one, covolume_range, ratio_low, ratio_h
 use Rattle.case_types.specs.Divisions.{State, moles, bits, mole_fraction, mean_covolume, mean_attraction}
 use Rattle.case_types.specs.Faults.{fault_of}
 use Rattle.case_types.specs.Holding.{HoldsParameters, IsInBox, HoldsMeans, attraction_ratio}
-use Rattle.case_types.specs.Instances.{Instance}
-use Rattle.case_types.specs.Numbers.{Numbers, numbers_of}
+use Rattle.case_types.specs.Instances.{Instance, IsInstance}
+use Rattle.case_types.specs.Numbers.{Numbers, numbers_of, enclosures_of, lift_of}
 use Rattle.case_types.specs.Parameters.{covolume, attraction}
 use Rattle.case_types.specs.Sums.{fraction_sum_below}
 use Rattle.case_types.specs.Tables.{ends_at, ends_of_pair}
@@ -27,6 +27,8 @@ use Rattle.pr_params.proofs.Accepted.{covolume_sizes, attraction_positive, rho_o
 use Rattle.pr_params.proofs.Attracted.{IsAmong, by_among, le-ceiling}
 use Rattle.pr_params.proofs.Mean.{range_is, attraction_high_one, attraction_low_one, ratio_high_is, ratio_low_is}
 use Rattle.pr_params.proofs.One.{numbers_one}
+use Rattle.pr_params.proofs.AtComponents.{lift_of_numbers}
+use Rattle.pr_params.proofs.ParametersHold.{covolume_within, holds_parameters}
 use Rattle.pr_params.specs.One.{covolume_one, attraction_one, ratio_one}
 
 -- ---- the mean over one component is the value of that component
@@ -185,15 +187,29 @@ ratio_held c box a b h e o ka kb =
     refl
 
 -- ---- the means of a phase
+covolume_one_within : (c : Case) → IsBetween (covolume_one c) (2 ^ (56 + (numbers_of c).lift)) (covolume c 0)
+unfolding covolume_one
+covolume_one_within c = rw (lift_of_numbers c) (covolume_within c (lift_of c) 0 c.some)
+
+pub mean_covolume_held : (c : Case) (box : Box) (f : State) → c.n ≡ 1 → fault_of c ≡ None → 0 < moles c.n f →
+    IsBetween (covolume_range (numbers_of c) box) (2 ^ (56 + (numbers_of c).lift)) (mean_covolume c f)
+mean_covolume_held c box f h e some =
+    rw (range_is c box h e) (mean_covolume_between c f (covolume_one c) (2 ^ (56 + (numbers_of c).lift)) h some (covolume_one_within c))
+
 pub holds_means : (c : Case) (x : Instance) (box : Box) (f : State) → c.n ≡ 1 → fault_of c ≡ None → HoldsParameters c (numbers_of c) x →
     IsInBox c.n box f → 0 < moles c.n f → HoldsMeans c (numbers_of c) x box f
 holds_means c x box f h e k inside some =
     let p = numbers_of c in
     let is = numbers_one c h in
-    let b : IsBetween (covolume_one c) (2 ^ (56 + p.lift)) (covolume c 0) = rw (ap (λ (q : Numbers). ends_at q.covolumes 0) is) at (k.covolume 0 c.some) in
+    let b : IsBetween (covolume_one c) (2 ^ (56 + p.lift)) (covolume c 0) = covolume_one_within c in
     let a : IsBetween (attraction_one c) (2 ^ (49 + p.lift)) (attraction c x 0 0) =
     rw (ap (λ (q : Numbers). ends_of_pair q.attractions 0 0) is) at (k.attraction 0 0 c.some c.some) in
     let mean_b = mean_covolume_between c f (covolume_one c) (2 ^ (56 + p.lift)) h some b in
     let mean_a = mean_attraction_between c x f (attraction_one c) (2 ^ (49 + p.lift)) h some a in
     let held = ratio_held c box (mean_attraction c x f) (mean_covolume c f) h e (about_one c.n box f h some inside) mean_a mean_b in
-    record { covolume = rw (range_is c box h e) mean_b; ratio_low = held.low; ratio_high = held.high }
+    record { covolume = mean_covolume_held c box f h e some; ratio_low = held.low; ratio_high = held.high }
+
+-- the numbers of an accepted case hold the means of every instance
+pub means_hold : (c : Case) (x : Instance) (box : Box) (f : State) → c.n ≡ 1 → fault_of c ≡ None → IsInstance c (enclosures_of c) x →
+    IsInBox c.n box f → 0 < moles c.n f → HoldsMeans c (numbers_of c) x box f
+means_hold c x box f h e i inside some = holds_means c x box f h e (holds_parameters c x e i) inside some
