@@ -1,6 +1,5 @@
 -- What `Params` keeps of a case, and how large the numbers of one component are.
-use Rattle.std.proofs.Common.{◌≡◌, ℕ, zero, suc, ◌+◌, ◌*◌, ◌^◌, ◌<◌, ◌≤◌, List, [], ◌∷◌, get_or, map, take, cond, IsTrue, Bool, true, false, ◌&&◌, ℤ, pos, negsuc, neg_ℤ, ◌-ℤ◌, ◌*ℤ◌, ◌≤ℤ◌, refl, sym, ◌∙◌, ap, arith, None}
-use Rattle.std.specs.Prelude.{int_le}
+use Rattle.std.proofs.Common.{◌≡◌, ℕ, zero, suc, ◌+◌, ◌*◌, ◌^◌, ◌<◌, ◌≤◌, List, [], ◌∷◌, get_or, map, take, cond, Bool, true, false, ℤ, pos, negsuc, ◌-ℤ◌, ◌*ℤ◌, ◌≤ℤ◌, refl, sym, ◌∙◌, ap, arith, None}
 use Rattle.std.specs.Int.{int_max}
 use Rattle.std.proofs.lemmas.Int.{ints, clamps}
 use Rattle.log_laws.specs.Between.{Ends}
@@ -14,7 +13,6 @@ use Rattle.case_types.specs.declared.cases.Case.{Case}
 use Rattle.case_types.specs.CaseWords.{critical_pressure, interaction}
 use Rattle.case_types.specs.Faults.{fault_of}
 use Rattle.case_types.specs.Numbers.{Numbers, numbers_of, enclosures_of, lift_of, lift_up_to, fits_lifted, bare_attraction_ends}
-use Rattle.case_types.specs.Ranges.{entry, is_interaction}
 use Rattle.case_types.specs.Sums.{all_below}
 use Rattle.pr_params.specs.declared.numbers.Params.{Params}
 use Rattle.pr_params.specs.Held.{ends_in}
@@ -106,7 +104,7 @@ unfolding covolume_one
 covolume_sizes c h e =
     let k = accepted_one c h e in
     let l = lift_up_to_is c 29 h k.small in
-    let d = den_positive c h in
+    let d = den_positive c in
     let low = quotient_low (num_one c) (den_one c) (lift_of c) d (raised_high (num_one c) (den_one c) (lift_of c) k.large l) in
     let high = ceiling_high (num_one c) (den_one c) (lift_of c) d l.lifted in
     (omega (arith, ints, low), rw (ceil_over-pos (num_one c * 2 ^ (56 + lift_of c)) (den_one c) d) (omega (arith, ints, high)))

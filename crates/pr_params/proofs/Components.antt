@@ -1,7 +1,7 @@
 -- The ranges of each component of a case, and of each pair.
-use Rattle.std.proofs.Common.{ℕ, ◌<◌, ◌≤◌, Bool, ℤ, pos, neg_ℤ, ◌≤ℤ◌, ◌&&◌, arith}
+use Rattle.std.proofs.Common.{ℕ, ◌*◌, ◌<◌, Bool, pos, neg_ℤ, ◌≤ℤ◌, ◌&&◌, arith}
 use Rattle.std.specs.Prelude.{int_le}
-use Rattle.std.proofs.lemmas.Int.{ints}
+use Rattle.std.proofs.Math.Nat.{mul-le-mul}
 use Rattle.case_types.specs.declared.cases.Case.{Case}
 use Rattle.case_types.specs.CaseWords.{critical_temperature, critical_pressure, acentric_factor, interaction}
 use Rattle.case_types.specs.Ranges.{entry, is_interaction, is_critical_temperature, is_critical_pressure, is_acentric_factor}
@@ -9,6 +9,7 @@ use Rattle.case_types.specs.Sums.{all_below}
 use Rattle.pr_params.proofs.Below.{all_below_at}
 use Rattle.pr_params.proofs.Component.{and_true, at_most, int_at_most, IsComponent}
 
+-- the ranges of the component hold
 pub component_at : (c : Case) (i : ℕ) → i < c.n → IsComponent (critical_temperature c i) (critical_pressure c i) (acentric_factor c i)
 component_at c i h =
     let tc = and_true _ _ (all_below_at c.n (λ i. is_critical_temperature (critical_temperature c i)) i h c.tc_range) in
@@ -36,3 +37,10 @@ interaction_at_most c i j h g =
     let pair = all_below_at 4 (λ j. place i j) j g' row in
     let range = (and_true (is_interaction (entry k i j)) (int_le (entry k i j) (entry k j i)) pair).0 in
     int_at_most (entry k i j) (pos 5000) (and_true (int_le (neg_ℤ (pos 5000)) (entry k i j)) (int_le (entry k i j) (pos 5000)) range).1
+
+-- the denominator of its co-volume is positive
+pub den_positive_at : (c : Case) (i : ℕ) → i < c.n → 0 < 5000 * critical_pressure c i * c.t
+den_positive_at c i h =
+    let k = component_at c i h in
+    let p = mul-le-mul k.pc_low c.t_low in
+    omega (arith, p)

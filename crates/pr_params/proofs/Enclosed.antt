@@ -1,17 +1,13 @@
 -- Each parameter of an instance lies between the ends that are made from those of its roots.
-use Rattle.std.proofs.Common.{◌≡◌, ℕ, zero, suc, ◌+◌, ◌*◌, ◌/◌, ◌^◌, ◌<◌, ◌≤◌, ℤ, pos, negsuc, neg_ℤ, ◌+ℤ◌, ◌-ℤ◌, ◌*ℤ◌, ◌≤ℤ◌, ◌<ℤ◌, refl, arith, unsigned_abs}
+use Rattle.std.proofs.Common.{◌≡◌, ℕ, ◌*◌, ◌<◌, ℤ, pos, neg_ℤ, ◌+ℤ◌, ◌-ℤ◌, ◌*ℤ◌, ◌≤ℤ◌, refl, arith}
 use Rattle.std.specs.Int.{int_min, int_max}
 use Rattle.std.proofs.lemmas.Int.{ints, clamps}
-use Rattle.std.proofs.lemmas.Nat.{pow-add}
-use Rattle.std.proofs.Math.Nat.{mul-le-mul, mul-le-mul_left, mul-le-mul_right, div-mul-le_self}
-use borrow.Author.Differences.{same_in}
 use Rattle.log_laws.specs.Between.{Ends, IsBetween}
-use Rattle.log_laws.specs.Fraction.{Fraction, whole, sum_of, difference, product_of, quotient_of}
+use Rattle.log_laws.specs.Fraction.{Fraction, whole, sum_of, difference, product_of}
 use Rattle.log_laws.specs.LogSum.{ratio}
-use Rattle.log_laws.specs.Whole.{floor_over, ceil_over, floor_div, ceil_div, ceil_quotient}
+use Rattle.log_laws.specs.Whole.{floor_over, ceil_over, floor_div, ceil_div}
 use Rattle.log_laws.proofs.Parts.{product_pos}
-use Rattle.log_laws.proofs.Ring.{up-mul, down-mul, mul_assoc_ℤ, mul-le_ℤ, floor_over-le, le-ceil_over, ceil_over-pos, neg-mul, add-mul_ℤ, scale_scale, corner_low, corner_high}
-use Rattle.case_types.specs.Numbers.{attraction_ends}
+use Rattle.log_laws.proofs.Ring.{mul_assoc_ℤ, mul-le_ℤ, floor_over-le, le-ceil_over, neg-mul, add-mul_ℤ, scale_scale, corner_low, corner_high}
 
 -- ---- a fraction of whole numbers
 pub quotient_within : (n d scale : ℕ) → 0 < d →

@@ -1,15 +1,15 @@
 -- The means of a phase of one component lie between the ends of the box that holds it.
-use Rattle.std.proofs.Common.{◌≡◌, ℕ, ◌+◌, ◌*◌, ◌/◌, ◌^◌, ◌<◌, ◌≤◌, ℤ, pos, ◌*ℤ◌, ◌≤ℤ◌, Bool, true, false, cond, refl, sym, subst, ◌∙◌, ap, arith, lit<, None, slice_index}
+use Rattle.std.proofs.Common.{◌≡◌, ℕ, ◌+◌, ◌*◌, ◌/◌, ◌^◌, ◌<◌, ◌≤◌, ℤ, pos, Bool, true, false, cond, refl, sym, subst, ◌∙◌, ap, arith, lit<, None, slice_index}
 use Rattle.std.specs.Prelude.{int_lt}
-use Rattle.std.specs.Int.{int_min, int_max}
+use Rattle.std.specs.Int.{int_min}
 use Rattle.std.proofs.lemmas.Int.{ints, clamps}
 use Rattle.std.proofs.lemmas.Nat.{pow-add, pow_pos}
-use Rattle.std.proofs.Math.Nat.{mul-le-mul, mul-le-mul_left, mul-le-mul_right, le_of_mul-le-mul_right, div-mul-le_self}
+use Rattle.std.proofs.Math.Nat.{mul-le-mul_left, mul-le-mul_right, le_of_mul-le-mul_right, div-mul-le_self}
 use Rattle.log_laws.specs.Between.{Ends, IsBetween}
 use Rattle.log_laws.specs.Fraction.{Fraction, IsSame, IsAtMost, whole, sum_of, product_of, quotient_of}
 use Rattle.log_laws.specs.LogSum.{ratio}
 use Rattle.log_laws.specs.Whole.{ceil_quotient}
-use Rattle.log_laws.proofs.Parts.{IsParts, parts_self, parts_ratio, parts_product, same_of_parts, product_pos}
+use Rattle.log_laws.proofs.Parts.{parts_self, parts_ratio, parts_product, same_of_parts, product_pos}
 use Rattle.log_laws.proofs.Ring.{ceil_over-pos}
 use Rattle.log_laws.proofs.Terms.{parts_zero_plus}
 use Rattle.fix_interval.proofs.Between.{IsBetween-same}
@@ -17,12 +17,12 @@ use Rattle.case_types.specs.declared.cases.Case.{Case}
 use Rattle.case_types.specs.Bounds.{Box, one, covolume_range, ratio_low, ratio_high}
 use Rattle.case_types.specs.Divisions.{State, moles, bits, mole_fraction, mean_covolume, mean_attraction}
 use Rattle.case_types.specs.Faults.{fault_of}
-use Rattle.case_types.specs.Holding.{HoldsParameters, IsInBox, HoldsMeans, attraction_ratio}
+use Rattle.case_types.specs.Holding.{HoldsParameters, IsInBox, HoldsMeans}
 use Rattle.case_types.specs.Instances.{Instance, IsInstance}
 use Rattle.case_types.specs.Numbers.{Numbers, numbers_of, enclosures_of, lift_of}
 use Rattle.case_types.specs.Parameters.{covolume, attraction}
 use Rattle.case_types.specs.Sums.{fraction_sum_below}
-use Rattle.case_types.specs.Tables.{ends_at, ends_of_pair}
+use Rattle.case_types.specs.Tables.{ends_of_pair}
 use Rattle.pr_params.proofs.Accepted.{covolume_sizes, attraction_positive, rho_one}
 use Rattle.pr_params.proofs.Attracted.{IsAmong, by_among, le-ceiling}
 use Rattle.pr_params.proofs.Mean.{range_is, attraction_high_one, attraction_low_one, ratio_high_is, ratio_low_is}

@@ -1,10 +1,9 @@
 -- The numbers of a case that breaks no range hold the parameters of every instance.
-use Rattle.std.proofs.Common.{◌≡◌, ℕ, ◌+◌, ◌*◌, ◌^◌, ◌<◌, ◌≤◌, Bool, true, false, nat_lt, ℤ, pos, negsuc, ◌-ℤ◌, ◌*ℤ◌, ◌≤ℤ◌, ◌<ℤ◌, unsigned_abs, refl, sym, ◌∙◌, arith, inl, inr, lit<, Option, None}
+use Rattle.std.proofs.Common.{◌≡◌, ℕ, ◌+◌, ◌*◌, ◌^◌, ◌<◌, ◌≤◌, ℤ, pos, negsuc, ◌-ℤ◌, ◌*ℤ◌, ◌≤ℤ◌, ◌<ℤ◌, unsigned_abs, refl, arith, inl, inr, lit<, None}
 use Rattle.std.specs.Prelude.{int_lt}
 use Rattle.std.proofs.lemmas.Bool.{cases_lt}
 use Rattle.std.proofs.lemmas.Int.{ints}
 use Rattle.std.proofs.lemmas.Nat.{pow_pos}
-use Rattle.std.proofs.Math.Nat.{mul-le-mul, pow-le-pow_right}
 use Rattle.log_laws.specs.Between.{Ends, IsBetween}
 use Rattle.log_laws.specs.Fraction.{Fraction, whole}
 use Rattle.log_laws.proofs.Powers.{pow_pos_of}
@@ -13,27 +12,21 @@ use Rattle.case_types.specs.declared.cases.ParamFault.TheVariants.{MRange}
 use Rattle.case_types.specs.CaseWords.{critical_temperature, critical_pressure, acentric_factor, interaction}
 use Rattle.case_types.specs.Faults.{fault_of, alpha_fault}
 use Rattle.case_types.specs.Holding.{HoldsParameters}
-use Rattle.case_types.specs.Instances.{Enclosures, AreRight, Instance, IsInstance, pair_place}
-use Rattle.case_types.specs.Numbers.{numbers_of, enclosures_of, lift_of, covolume_ends, alpha_root_ends, bare_attraction_ends, attraction_ends, pressure_root_of}
-use Rattle.case_types.specs.Parameters.{kappa_of, covolume, alpha_root, bare_attraction, attraction, cohesion_num, cohesion_den}
+use Rattle.case_types.specs.Instances.{Enclosures, AreRight, Instance, IsInstance}
+use Rattle.case_types.specs.Numbers.{numbers_of, enclosures_of, lift_of, covolume_ends, alpha_root_ends, bare_attraction_ends, pressure_root_of}
+use Rattle.case_types.specs.Parameters.{kappa_of, covolume, alpha_root, bare_attraction, cohesion_num, cohesion_den}
 use Rattle.case_types.specs.Tables.{ends_at, ends_of_pair}
 use Rattle.pr_params.proofs.Accepted.{bare_positive}
 use Rattle.pr_params.proofs.AtComponents.{lift_of_numbers, two_of_numbers, log_e_of_numbers, alpha_root_at, covolume_at, bare_attraction_at, attraction_at}
 use Rattle.pr_params.proofs.Attracted.{bare_within, attraction_within}
 use Rattle.pr_params.proofs.Below.{or_else_none, first_below_none}
-use Rattle.pr_params.proofs.Components.{component_at, interaction_at_most}
+use Rattle.pr_params.proofs.Components.{component_at, interaction_at_most, den_positive_at}
 use Rattle.pr_params.proofs.Enclosed.{quotient_within, line_within}
 use Rattle.pr_params.proofs.Faulted.{lt_yes, lt_no}
 use Rattle.pr_params.proofs.Right.{enclosures_right}
 use Rattle.pr_params.proofs.Sizes.{where_none, not_less}
 
 -- ---- the co-volume and the root of alpha
-pub den_positive_at : (c : Case) (i : ℕ) → i < c.n → 0 < 5000 * critical_pressure c i * c.t
-den_positive_at c i h =
-    let k = component_at c i h in
-    let p = mul-le-mul k.pc_low c.t_low in
-    omega (arith, p)
-
 pub covolume_within : (c : Case) (lift i : ℕ) → i < c.n → IsBetween (covolume_ends c lift i) (2 ^ (56 + lift)) (covolume c i)
 covolume_within c lift i h =
     quotient_within (389 * c.p * critical_temperature c i) (5000 * critical_pressure c i * c.t) (2 ^ (56 + lift)) (den_positive_at c i h)

@@ -1,21 +1,20 @@
 -- The printed pairs of a case hold the roots and the logarithm of e.
-use Rattle.std.proofs.Common.{◌≡◌, ℕ, zero, suc, ◌+◌, ◌*◌, ◌/◌, ◌^◌, ◌<◌, ◌≤◌, true, nat_lt, cond, ℤ, pos, ◌*ℤ◌, ◌≤ℤ◌, ◌<ℤ◌, List, refl, sym, ◌∙◌, ap, subst, arith, lit<}
+use Rattle.std.proofs.Common.{◌≡◌, ℕ, zero, suc, ◌+◌, ◌*◌, ◌/◌, ◌^◌, ◌<◌, ◌≤◌, nat_lt, cond, refl, arith, lit<}
 use Rattle.std.proofs.lemmas.Int.{ints}
-use Rattle.std.proofs.Math.Nat.{mul-le-mul, mul-le-mul_left, div-lt_iff_lt-mul}
+use Rattle.std.proofs.Math.Nat.{mul-le-mul, div-lt_iff_lt-mul}
 use Rattle.log_laws.specs.Between.{Ends}
 use Rattle.log_laws.specs.LogE.{log_e_ends}
-use Rattle.log_laws.specs.Roots.{root_ends, root_floor, root_ceiling, ceiling_from}
+use Rattle.log_laws.specs.Roots.{root_ends, root_floor, ceiling_from}
 use Rattle.log_laws.specs.Squaring.{down, up}
 use Rattle.root_enclose.proofs.RootDigits.{floor_root_is}
 use Rattle.root_enclose.proofs.Squares.{IsFloorRootOver, floor_root_over, floor-le-ceiling, ceiling_covers}
 use Rattle.log_enclose.proofs.Constants.{low_of_e, high_of_e}
 use Rattle.case_types.specs.declared.cases.Case.{Case}
 use Rattle.case_types.specs.CaseWords.{critical_temperature, critical_pressure}
-use Rattle.case_types.specs.Instances.{Enclosures, HoldsRoot, HoldsLogE, AreRight, pair_place}
+use Rattle.case_types.specs.Instances.{HoldsRoot, HoldsLogE, AreRight, pair_place}
 use Rattle.case_types.specs.Numbers.{enclosures_of, pressure_root_ends}
 use Rattle.case_types.specs.Tables.{ends_at, no_ends}
 use Rattle.pr_params.proofs.Below.{get_or-list_below}
-use Rattle.pr_params.proofs.Component.{IsComponent}
 use Rattle.pr_params.proofs.Components.{component_at}
 use Rattle.pr_params.proofs.Faulted.{lt_yes}
 
