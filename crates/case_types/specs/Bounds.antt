@@ -5,7 +5,7 @@ use Rattle.log_laws.specs.Squaring.{log_down, log_up}
 use Rattle.case_types.specs.declared.phases.Phase.{Phase}
 use Rattle.case_types.specs.declared.phases.Split.{Split}
 use Rattle.case_types.specs.Numbers.{Numbers}
-use Rattle.case_types.specs.Sums.{sum_below, int_sum_below, least_below, greatest_below}
+use Rattle.log_laws.specs.Sums.{sum_below, int_sum_below, least_below, greatest_below}
 use Rattle.log_laws.specs.Between.{Ends}
 use Rattle.log_laws.specs.Whole.{ceil_quotient, floor_div, ceil_div}
 use Rattle.case_types.specs.Tables.{ends_at, ends_of_pair}

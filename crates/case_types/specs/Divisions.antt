@@ -9,7 +9,7 @@ use Rattle.case_types.specs.declared.phases.Split.{Split}
 use Rattle.case_types.specs.CaseWords.{feed}
 use Rattle.case_types.specs.Instances.{Instance, Enclosures, IsInstance, AreRight}
 use Rattle.case_types.specs.Parameters.{covolume, attraction}
-use Rattle.case_types.specs.Sums.{sum_below, fraction_sum_below, log_sum_below}
+use Rattle.log_laws.specs.Sums.{sum_below, fraction_sum_below, log_sum_below}
 
 -- ---- phases
 -- whole parts of the components, and a packing

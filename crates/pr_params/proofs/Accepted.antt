@@ -6,14 +6,14 @@ use Rattle.log_laws.specs.Between.{Ends}
 use Rattle.log_laws.specs.Squaring.{down, up}
 use Rattle.log_laws.specs.Roots.{root_digits, with_digit}
 use Rattle.log_laws.specs.Whole.{floor_over, ceil_div}
-use Rattle.log_laws.proofs.Ring.{ceil_over-pos}
+use Rattle.log_laws.proofs.Exports.{ceil_over-pos}
 use Rattle.fix_interval.specs.declared.iv.Iv.{Iv}
 use Rattle.fix_interval.specs.Interval.{ends_of}
 use Rattle.case_types.specs.declared.cases.Case.{Case}
 use Rattle.case_types.specs.CaseWords.{critical_pressure, interaction}
 use Rattle.case_types.specs.Faults.{fault_of}
 use Rattle.case_types.specs.Numbers.{Numbers, numbers_of, enclosures_of, lift_of, lift_up_to, fits_lifted, bare_attraction_ends}
-use Rattle.case_types.specs.Sums.{all_below}
+use Rattle.log_laws.specs.Sums.{all_below}
 use Rattle.pr_params.specs.declared.numbers.Params.{Params}
 use Rattle.pr_params.specs.Held.{ends_in}
 use Rattle.pr_params.specs.One.{num_one, den_one, bare_one, alpha_one, covolume_one, attraction_one, ratio_one}

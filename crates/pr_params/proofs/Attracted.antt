@@ -7,8 +7,8 @@ use Rattle.log_laws.specs.Between.{Ends, IsBetween}
 use Rattle.log_laws.specs.Fraction.{Fraction, product_of, quotient_of}
 use Rattle.log_laws.specs.LogSum.{ratio}
 use Rattle.log_laws.specs.Whole.{floor_div, ceil_div, ceil_quotient}
-use Rattle.log_laws.proofs.Parts.{product_pos}
-use Rattle.log_laws.proofs.Ring.{le-ceil_over, ceil_over-pos}
+use Rattle.log_laws.proofs.Exports.{product_pos}
+use Rattle.log_laws.proofs.Exports.{le-ceil_over, ceil_over-pos}
 use Rattle.case_types.specs.Numbers.{attraction_ends}
 
 -- the ceiling of a quotient is no less

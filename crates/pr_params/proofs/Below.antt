@@ -4,7 +4,7 @@ use Rattle.std.proofs.lemmas.Bool.{cases_lt}
 use Rattle.std.proofs.lemmas.List.{get_or_append_left}
 use Rattle.std.proofs.Math.Seq.{get_or-append_seam}
 use Rattle.case_types.specs.Faults.{or_else, first_below}
-use Rattle.case_types.specs.Sums.{all_below, list_below}
+use Rattle.log_laws.specs.Sums.{all_below, list_below}
 use Rattle.pr_params.proofs.Component.{and_true}
 
 -- a test that holds of all holds of each

@@ -5,7 +5,7 @@ use Rattle.std.proofs.Math.Nat.{mul-le-mul}
 use Rattle.case_types.specs.declared.cases.Case.{Case}
 use Rattle.case_types.specs.CaseWords.{critical_temperature, critical_pressure, acentric_factor, interaction}
 use Rattle.case_types.specs.Ranges.{entry, is_interaction, is_critical_temperature, is_critical_pressure, is_acentric_factor}
-use Rattle.case_types.specs.Sums.{all_below}
+use Rattle.log_laws.specs.Sums.{all_below}
 use Rattle.pr_params.proofs.Below.{all_below_at}
 use Rattle.pr_params.proofs.Component.{and_true, at_most, int_at_most, IsComponent}
 

@@ -6,8 +6,8 @@ use Rattle.log_laws.specs.Between.{Ends, IsBetween}
 use Rattle.log_laws.specs.Fraction.{Fraction, whole, sum_of, difference, product_of}
 use Rattle.log_laws.specs.LogSum.{ratio}
 use Rattle.log_laws.specs.Whole.{floor_over, ceil_over, floor_div, ceil_div}
-use Rattle.log_laws.proofs.Parts.{product_pos}
-use Rattle.log_laws.proofs.Ring.{mul_assoc_ℤ, mul-le_ℤ, floor_over-le, le-ceil_over, neg-mul, add-mul_ℤ, scale_scale, corner_low, corner_high}
+use Rattle.log_laws.proofs.Exports.{product_pos}
+use Rattle.log_laws.proofs.Exports.{mul_assoc_ℤ, mul-le_ℤ, floor_over-le, le-ceil_over, neg-mul, add-mul_ℤ, scale_scale, corner_low, corner_high}
 
 -- ---- a fraction of whole numbers
 pub quotient_within : (n d scale : ℕ) → 0 < d →

@@ -5,7 +5,7 @@ use Rattle.case_types.specs.declared.cases.Case.{Case}
 use Rattle.case_types.specs.CaseWords.{critical_temperature, critical_pressure}
 use Rattle.case_types.specs.Faults.{fault_of, covolumes_in_range}
 use Rattle.case_types.specs.Numbers.{lift_up_to, lift_of, fits_lifted}
-use Rattle.case_types.specs.Sums.{all_below}
+use Rattle.log_laws.specs.Sums.{all_below}
 use Rattle.pr_params.specs.Kept.{IsGreatestLift}
 use Rattle.pr_params.proofs.Below.{all_below_at}
 use Rattle.pr_params.proofs.Component.{and_true, at_most}

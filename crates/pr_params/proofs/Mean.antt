@@ -6,11 +6,11 @@ use Rattle.log_laws.specs.Between.{Ends}
 use Rattle.log_laws.specs.LogE.{log_e_ends}
 use Rattle.log_laws.specs.Roots.{root_ends}
 use Rattle.log_laws.specs.Whole.{floor_div, ceil_div, ceil_quotient}
-use Rattle.log_laws.proofs.Ring.{ceil_over-pos}
+use Rattle.log_laws.proofs.Exports.{ceil_over-pos}
 use Rattle.case_types.specs.declared.cases.Case.{Case}
 use Rattle.case_types.specs.Bounds.{Box, one, covolume_range, attraction_low, attraction_high, ratio_low, ratio_high}
 use Rattle.case_types.specs.Numbers.{Numbers, numbers_of, lift_of}
-use Rattle.case_types.specs.Sums.{least_below, greatest_below, int_sum_below}
+use Rattle.log_laws.specs.Sums.{least_below, greatest_below, int_sum_below}
 use Rattle.case_types.specs.Faults.{fault_of}
 use Rattle.pr_params.specs.One.{num_one, den_one, alpha_one, bare_one, covolume_one, attraction_one, ratio_one}
 use Rattle.pr_params.proofs.Accepted.{covolume_sizes}

@@ -9,9 +9,9 @@ use Rattle.log_laws.specs.Between.{Ends, IsBetween}
 use Rattle.log_laws.specs.Fraction.{Fraction, IsSame, IsAtMost, whole, sum_of, product_of, quotient_of}
 use Rattle.log_laws.specs.LogSum.{ratio}
 use Rattle.log_laws.specs.Whole.{ceil_quotient}
-use Rattle.log_laws.proofs.Parts.{parts_self, parts_ratio, parts_product, same_of_parts, product_pos}
-use Rattle.log_laws.proofs.Ring.{ceil_over-pos}
-use Rattle.log_laws.proofs.Terms.{parts_zero_plus}
+use Rattle.log_laws.proofs.Exports.{parts_self, parts_ratio, parts_product, same_of_parts, product_pos}
+use Rattle.log_laws.proofs.Exports.{ceil_over-pos}
+use Rattle.log_laws.proofs.Exports.{parts_zero_plus}
 use Rattle.fix_interval.proofs.Between.{IsBetween-same}
 use Rattle.case_types.specs.declared.cases.Case.{Case}
 use Rattle.case_types.specs.Bounds.{Box, one, covolume_range, ratio_low, ratio_high}
@@ -21,7 +21,7 @@ use Rattle.case_types.specs.Holding.{HoldsParameters, IsInBox, HoldsMeans}
 use Rattle.case_types.specs.Instances.{Instance, IsInstance}
 use Rattle.case_types.specs.Numbers.{Numbers, numbers_of, enclosures_of, lift_of}
 use Rattle.case_types.specs.Parameters.{covolume, attraction}
-use Rattle.case_types.specs.Sums.{fraction_sum_below}
+use Rattle.log_laws.specs.Sums.{fraction_sum_below}
 use Rattle.case_types.specs.Tables.{ends_of_pair}
 use Rattle.pr_params.proofs.Accepted.{covolume_sizes, attraction_positive, rho_one}
 use Rattle.pr_params.proofs.Attracted.{IsAmong, by_among, le-ceiling}

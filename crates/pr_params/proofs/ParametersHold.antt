@@ -6,7 +6,7 @@ use Rattle.std.proofs.lemmas.Int.{ints}
 use Rattle.std.proofs.lemmas.Nat.{pow_pos}
 use Rattle.log_laws.specs.Between.{Ends, IsBetween}
 use Rattle.log_laws.specs.Fraction.{Fraction, whole}
-use Rattle.log_laws.proofs.Powers.{pow_pos_of}
+use Rattle.log_laws.proofs.Exports.{pow_pos_of}
 use Rattle.case_types.specs.declared.cases.Case.{Case}
 use Rattle.case_types.specs.declared.cases.ParamFault.TheVariants.{MRange}
 use Rattle.case_types.specs.CaseWords.{critical_temperature, critical_pressure, acentric_factor, interaction}

@@ -8,7 +8,7 @@ use Rattle.log_laws.specs.Roots.{root_ends, root_floor, ceiling_from}
 use Rattle.log_laws.specs.Squaring.{down, up}
 use Rattle.root_enclose.proofs.RootDigits.{floor_root_is}
 use Rattle.root_enclose.proofs.Squares.{IsFloorRootOver, floor_root_over, floor-le-ceiling, ceiling_covers}
-use Rattle.log_enclose.proofs.Constants.{low_of_e, high_of_e}
+use Rattle.log_enclose.proofs.Exports.{low_of_e, high_of_e}
 use Rattle.case_types.specs.declared.cases.Case.{Case}
 use Rattle.case_types.specs.CaseWords.{critical_temperature, critical_pressure}
 use Rattle.case_types.specs.Instances.{HoldsRoot, HoldsLogE, AreRight, pair_place}

@@ -3,7 +3,7 @@ use Rattle.std.specs.Prelude.{ℕ, ◌<◌, ◌≤◌, IsTrue, IsFalse}
 use Rattle.case_types.specs.declared.cases.Case.{Case}
 use Rattle.case_types.specs.Instances.{Enclosures}
 use Rattle.case_types.specs.Numbers.{Numbers, fits_lifted}
-use Rattle.case_types.specs.Sums.{all_below}
+use Rattle.log_laws.specs.Sums.{all_below}
 use Rattle.pr_params.specs.declared.numbers.Params.{Params}
 use Rattle.pr_params.specs.Held.{numbers_in, enclosures_in}
 

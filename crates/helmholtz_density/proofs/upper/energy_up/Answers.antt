@@ -4,7 +4,7 @@ use Rattle.std.proofs.lemmas.Int.{ints, to_z_pos}
 use Rattle.log_laws.specs.Between.{Ends}
 use Rattle.log_laws.specs.Squaring.{log_down}
 use Rattle.log_laws.specs.Whole.{floor_div}
-use Rattle.log_laws.proofs.Wide.{back}
+use Rattle.log_laws.proofs.Exports.{back}
 use Rattle.case_types.specs.Bounds.{covolume_scale, covolume_range, lambda_down}
 use Rattle.case_types.specs.Numbers.{numbers_of}
 use Rattle.pr_params.specs.Boxes.{box_of}

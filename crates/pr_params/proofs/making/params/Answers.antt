@@ -2,7 +2,7 @@ use Rattle.std.proofs.Common.{◌≡◌, ◌<◌, pos, unsigned_abs, sym, ap, �
 use Rattle.std.specs.Int.{w128}
 use Rattle.std.proofs.lemmas.Int.{ints}
 use Rattle.log_laws.specs.Between.{Ends}
-use Rattle.log_laws.proofs.Wide.{back}
+use Rattle.log_laws.proofs.Exports.{back}
 use Rattle.pr_params.specs.One.{covolume_one, attraction_one}
 use Rattle.pr_params.proofs.Faulted.{small_alpha, large_attraction, no_fault}
 use Rattle.fix_interval.specs.Interval.{ends, ends_of}

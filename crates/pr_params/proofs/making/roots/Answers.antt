@@ -1,5 +1,5 @@
 use Rattle.std.proofs.Common.{SFits, rules, arith}
-use Rattle.log_laws.proofs.Wide.{back}
+use Rattle.log_laws.proofs.Exports.{back}
 use Rattle.std.specs.Int.{w32}
 use Rattle.std.proofs.lemmas.Int.{to_z-of_z}
 use Rattle.pr_params.specs.One.{root_one}

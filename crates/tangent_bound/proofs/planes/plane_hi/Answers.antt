@@ -1,5 +1,5 @@
 use Rattle.std.proofs.Common.{◌∙◌, pos, slice_index_or, sym, arith}
-use Rattle.log_laws.proofs.Wide.{back}
+use Rattle.log_laws.proofs.Exports.{back}
 use Rattle.pr_params.specs.Boxes.{box_of}
 use Rattle.tangent_bound.proofs.PlaneEnds.{plane_one, first_small}
 use Rattle.tangent_bound.proofs.planes.plane_hi.Goals as goal
