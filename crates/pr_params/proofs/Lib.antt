@@ -9,3 +9,12 @@ pub mod Made
 pub mod Accepted
 pub mod Signed
 pub mod Mean
+pub mod Below
+pub mod Components
+pub mod Right
+pub mod AtComponents
+pub mod Enclosed
+pub mod Attracted
+pub mod ParametersHold
+pub mod MeansHold
+pub mod GreatestLift

@@ -72,15 +72,15 @@ range_one : (c : Case) (x : Box) → c.n ≡ 1 → pos 0 ≤ℤ (covolume_one c)
 range_one c x h low high = ap (λ (q : Numbers). covolume_range q x) (numbers_are c h) ∙ range_at_one c x low high
 
 -- the upper end of the co-volume isn't negative
-hi_positive : (c : Case) → c.n ≡ 1 → pos 0 ≤ℤ (covolume_one c).hi
+hi_positive : (c : Case) → pos 0 ≤ℤ (covolume_one c).hi
 unfolding covolume_one
-hi_positive c h = rw (ceil_over-pos (num_one c * 2 ^ (56 + lift_of c)) (den_one c) (den_positive c h)) (omega (arith, ints))
+hi_positive c = rw (ceil_over-pos (num_one c * 2 ^ (56 + lift_of c)) (den_one c) (den_positive c)) (omega (arith, ints))
 
 -- the same where the case is accepted
 pub range_is : (c : Case) (x : Box) → c.n ≡ 1 → fault_of c ≡ None → covolume_range (numbers_of c) x ≡ covolume_one c
 range_is c x h e =
     let low = (covolume_sizes c h e).0 in
-    range_one c x h (omega (arith, ints, low)) (hi_positive c h)
+    range_one c x h (omega (arith, ints, low)) (hi_positive c)
 
 -- ---- the attraction
 -- a fraction of a number, rounded up
