@@ -1,3 +1,5 @@
 pub mod Mixes
 pub mod Energy
 pub mod Shares
+pub mod Weighed
+pub mod Parts
