@@ -1,13 +1,15 @@
 -- What an end says of its status, of its answer and of the source.
-use Rattle.std.specs.Prelude.{◌≡◌, ℕ, ◌≤◌, ◌⊎◌, length}
+use Rattle.std.specs.Prelude.{◌≡◌, ℕ, ◌+◌, ◌≤◌, ◌⊎◌, List, length}
+use Rattle.std.specs.declared.option.Option.{Option}
 use Rattle.case_types.specs.declared.answers.Answer.{Answer}
 use Rattle.case_types.specs.declared.answers.Outcome.{Outcome}
 use Rattle.case_types.specs.declared.answers.Outcome.TheVariants.{Closed, Spent, Grain}
 use Rattle.case_types.specs.Answers.{IsAnswer}
 use Rattle.pr_params.specs.declared.numbers.Params.{Params}
 use Rattle.io_edge.specs.Causes.{CountsFault}
+use Rattle.io_edge.specs.Reading.{TakesAtMost, TakesExactly}
 use Rattle.flash_run.specs.declared.ends.End.{End}
-use Rattle.flash_run.specs.declared.ends.End.TheVariants.{Unbuilt, Read, Flash, Memory}
+use Rattle.flash_run.specs.declared.ends.End.TheVariants.{Unbuilt, Read, TooLong, Flash, Memory}
 
 -- the status of a flash
 abbrev pub status_of_outcome : Outcome → ℕ
@@ -19,6 +21,7 @@ status_of_outcome (Grain cell) = 5
 abbrev pub status_of : End → ℕ
 status_of Unbuilt = 3
 status_of Read = 6
+status_of TooLong = 11
 status_of Memory = 8
 status_of (Flash params tol answer) = status_of_outcome answer.outcome
 
@@ -26,6 +29,7 @@ status_of (Flash params tol answer) = status_of_outcome answer.outcome
 abbrev pub IsReportable : End → Type 0
 IsReportable Unbuilt = Unit {0}
 IsReportable Read = Unit {0}
+IsReportable TooLong = Unit {0}
 IsReportable Memory = Unit {0}
 IsReportable (Flash params tol answer) = params.case.n ≡ 1
 
@@ -44,6 +48,7 @@ pub record IsFlash (p : Params) (tol : ℕ) (a : Answer) : Type 0 where
 abbrev pub IsFlashed : End → Type 0
 IsFlashed Unbuilt = Unit {0}
 IsFlashed Read = Unit {0}
+IsFlashed TooLong = Unit {0}
 IsFlashed Memory = Unit {0}
 IsFlashed (Flash params tol answer) = IsFlash params tol answer
 
@@ -51,5 +56,18 @@ IsFlashed (Flash params tol answer) = IsFlash params tol answer
 abbrev pub CountsRead : End → ℕ → ℕ → Type 0
 CountsRead Unbuilt faults faults' = faults' ≡ faults
 CountsRead Read faults faults' = CountsFault faults faults'
+CountsRead TooLong faults faults' = faults' ≡ faults
 CountsRead Memory faults faults' = (faults' ≡ faults) ⊎ CountsFault faults faults'
 CountsRead (Flash params tol answer) faults faults' = faults' ≡ faults
+
+-- the most bytes of a table
+abbrev pub table_limit : ℕ
+table_limit = 4194304
+
+-- the next byte past the limit was taken exactly at TooLong; only where memory was wanting may that byte be taken elsewhere
+abbrev pub Takes : End → Option (List ℕ) → Option (List ℕ) → Type 0
+Takes Unbuilt left left' = TakesAtMost table_limit left left'
+Takes Read left left' = TakesAtMost table_limit left left'
+Takes TooLong left left' = TakesExactly (table_limit + 1) left left'
+Takes Memory left left' = TakesAtMost (table_limit + 1) left left'
+Takes (Flash params tol answer) left left' = TakesAtMost table_limit left left'

@@ -12,7 +12,7 @@ use Rattle.case_types.specs.Tables.{ends_at}
 use Rattle.pr_params.specs.declared.numbers.Params.{Params}
 use Rattle.pr_params.specs.Held.{enclosures_in}
 use Rattle.flash_run.specs.declared.ends.End.{End}
-use Rattle.flash_run.specs.declared.ends.End.TheVariants.{Unbuilt, Read, Flash, Memory}
+use Rattle.flash_run.specs.declared.ends.End.TheVariants.{Unbuilt, Read, TooLong, Flash, Memory}
 use Rattle.flash_run.specs.Pieces.{texts_below, line, ends_line, thousandths_text}
 
 -- the name of a component
@@ -92,5 +92,6 @@ flash_text p tol a =
 abbrev pub report_text : End → List ℕ
 report_text Unbuilt = codes "refused unbuilt\n"
 report_text Read = codes "refused read\n"
+report_text TooLong = codes "refused long\n"
 report_text Memory = []
 report_text (Flash params tol answer) = flash_text params tol answer

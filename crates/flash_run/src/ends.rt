@@ -12,6 +12,8 @@ pub enum End {
     Unbuilt,
     /// The table couldn't be read.
     Read,
+    /// The table has more bytes than a table may have.
+    TooLong,
     /// The numbers of the case, the tolerance and the answer of its flash.
     Flash(Params, u32, Answer),
     /// Memory was wanting: nothing is printed.
@@ -28,6 +30,7 @@ impl End {
         match self {
             End::Unbuilt => 3,
             End::Read => 6,
+            End::TooLong => 11,
             End::Memory => 8,
             End::Flash(_, _, answer) => match answer.outcome {
                 Outcome::Closed => 0,

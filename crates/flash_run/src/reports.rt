@@ -27,6 +27,7 @@ pub fn report(alloc: Global, end: &End) -> Result<Vec<u8>, AllocError>
     match end {
         End::Unbuilt => put_text(&mut out, "refused unbuilt\n")?,
         End::Read => put_text(&mut out, "refused read\n")?,
+        End::TooLong => put_text(&mut out, "refused long\n")?,
         End::Memory => {}
         End::Flash(params, tol, answer) => put_flash(&mut out, params, *tol, answer)?,
     }

@@ -1,3 +1,7 @@
+//! Examples worked by hand, and runs whose ends fail.
+
+ghost use Rattle.std.specs.Prelude.{◌<◌};
+
 use super::*;
 use crate::names::read_name;
 use crate::reading::{read_case, read_words};
@@ -127,17 +131,20 @@ fn prints_phases_and_kelvins(rt: HostRuntime) -> Result<(), Fail> {
     Ok(())
 }
 
-/// The status of a run in pieces of 10 bytes, and the sink after it.
+/// The status of a run whose source and sink move at most `piece` bytes at once, and the sink after it.
 fn run_in_pieces(
     alloc: Global,
     texts: &[&str],
-    table: &[u8],
+    table: Vec<u8>,
+    piece: usize,
     source_fails: &[u64],
     sink_fails: &[u64],
-) -> Result<(u8, MemSink), AllocError> {
+) -> Result<(u8, MemSink), AllocError>
+    requires { 0 < piece }
+{
     let words = words_of(alloc, texts)?;
-    let mut source = MemSource::new(table.to_vec(alloc)?, 10, source_fails.to_vec(alloc)?);
-    let mut sink = MemSink::new(alloc, 4096, 10, sink_fails.to_vec(alloc)?)?;
+    let mut source = MemSource::new(table, piece, source_fails.to_vec(alloc)?);
+    let mut sink = MemSink::new(alloc, 4096, piece, sink_fails.to_vec(alloc)?)?;
     let RunEnd { status, end: _ } = run(alloc, &words, &mut source, &mut sink);
     Ok((status, sink))
 }
@@ -145,19 +152,20 @@ fn run_in_pieces(
 #[test]
 fn ends_with_status_and_text(rt: HostRuntime) -> Result<(), Fail> {
     let alloc = rt.alloc();
-    // The feed, the table, the calls of the source and of the sink that fail, the status, the text.
-    let cases: [(&str, &[u8], &[u64], &[u64], u8, &[u8]); 6] = [
-        ("z=2", TABLE, &[], &[], 3, b"refused unbuilt\n"),
-        ("z=2", TABLE, &[1], &[], 3, b"refused unbuilt\n"),
-        ("z=2", TABLE, &[], &[2], 7, b"refused un"),
-        ("z=1", TABLE, &[2], &[], 6, b"refused read\n"),
-        ("z=1", TABLE, &[2], &[1], 7, b""),
-        ("z=1", &[b'a'; 129], &[15], &[], 3, b"refused unbuilt\n"),
+    // The feed, the calls of the source and of the sink that fail, the status, the text, in pieces of 10 bytes.
+    let cases: [(&str, &[u64], &[u64], u8, &[u8]); 6] = [
+        ("z=2", &[], &[], 3, b"refused unbuilt\n"),
+        ("z=2", &[1], &[], 3, b"refused unbuilt\n"),
+        ("z=2", &[], &[2], 7, b"refused un"),
+        ("z=1", &[2], &[], 6, b"refused read\n"),
+        ("z=1", &[1], &[1], 7, b""),
+        ("z=1", &[], &[2], 7, b"closed uni"),
     ];
-    for (feed, table, source_fails, sink_fails, want, text) in cases {
+    for (feed, source_fails, sink_fails, want, text) in cases {
         let mut texts = WORDS;
         texts[3] = feed;
-        let (status, sink) = run_in_pieces(alloc, &texts, table, source_fails, sink_fails)?;
+        let table = TABLE.to_vec(alloc)?;
+        let (status, sink) = run_in_pieces(alloc, &texts, table, 10, source_fails, sink_fails)?;
         assert_eq!(rt; status, want);
         assert_eq!(rt; sink.held(), text);
     }
@@ -165,11 +173,41 @@ fn ends_with_status_and_text(rt: HostRuntime) -> Result<(), Fail> {
 }
 
 #[test]
-fn flashes_with_failing_ends(rt: HostRuntime) -> Result<(), Fail> {
+fn fails_at_each_call(rt: HostRuntime) -> Result<(), Fail> {
     let alloc = rt.alloc();
-    // The flash itself runs here: its report is cut after ten bytes.
-    let (status, sink) = run_in_pieces(alloc, &WORDS, TABLE, &[], &[2])?;
-    assert_eq!(rt; status, 7);
-    assert_eq!(rt; sink.held(), b"closed uni".as_slice());
+    let (status, whole) = run_in_pieces(alloc, &WORDS, TABLE.to_vec(alloc)?, 7, &[], &[])?;
+    assert_eq!(rt; status, 0);
+    // The table comes in four pieces, and then it ends.
+    for call in 1..=5u64 {
+        let (status, sink) = run_in_pieces(alloc, &WORDS, TABLE.to_vec(alloc)?, 7, &[call], &[])?;
+        assert_eq!(rt; status, 6);
+        assert_eq!(rt; sink.held(), b"refused read\n".as_slice());
+    }
+    let mut before = 0;
+    for call in 1..=1000u64 {
+        if before >= whole.held().len() {
+            break;
+        }
+        let (status, sink) = run_in_pieces(alloc, &WORDS, TABLE.to_vec(alloc)?, 7, &[], &[call])?;
+        assert_eq!(rt; status, 7);
+        assert_eq!(rt; sink.held(), &whole.held()[..before]);
+        before += 7;
+    }
+    Ok(())
+}
+
+#[test]
+fn refuses_long_tables(rt: HostRuntime) -> Result<(), Fail> {
+    let alloc = rt.alloc();
+    // A table at the limit is read to its end, and one byte more is too long.
+    for (length, want, text) in [
+        (4_194_304, 3, "refused unbuilt\n"),
+        (4_194_305, 11, "refused long\n"),
+    ] {
+        let table = vec![in alloc; b'a'; length]?;
+        let (status, sink) = run_in_pieces(alloc, &WORDS, table, 4096, &[], &[])?;
+        assert_eq!(rt; status, want);
+        assert_eq!(rt; sink.held(), text.as_bytes());
+    }
     Ok(())
 }

@@ -1,11 +1,10 @@
 //! The whole program, over its words, its input and its output.
 
-ghost use Rattle.std.specs.Prelude.{◌≡◌, ◌≢◌, ◌⊎◌, ℕ};
+ghost use Rattle.std.specs.Prelude.{◌≡◌, ◌≢◌, ◌⊎◌, ◌≤◌, ◌+◌, ℕ};
 ghost use Rattle.io_edge.specs.Causes.{CountsFault};
-ghost use Rattle.io_edge.specs.Reading.{TakesAtMost};
 ghost use Rattle.io_edge.specs.Writing.{WritesAll, WritesSome};
 ghost use Rattle.flash_run.specs.ReportText.{report_text};
-ghost use Rattle.flash_run.specs.Ends.{status_of, IsFlashed, CountsRead};
+ghost use Rattle.flash_run.specs.Ends.{status_of, IsFlashed, CountsRead, Takes};
 
 use crate::ends::{End, RunEnd};
 use crate::reading::{read_case, read_words};
@@ -17,11 +16,12 @@ use pr_params::params;
 use std::alloc::Global;
 
 /// The most bytes of a table.
-const LIMIT: usize = 128;
+const LIMIT: usize = 4_194_304;
 
 /// The whole program: reads the words and the table, works, and writes the report.
 ///
-/// Nothing is read where the words are refused.
+/// The order is: words, reading, table, the work, writing. Nothing is taken after a take that failed, nor put after a put
+/// that failed, and the report is whole before the first byte of it is put.
 pub fn run<S: Source, K: Sink>(
     alloc: Global,
     words: &Vec<Word>,
@@ -38,11 +38,13 @@ pub fn run<S: Source, K: Sink>(
         (K.held sink.old) (K.held sink.new) (K.faults sink.old) (K.faults sink.new) }
     ensures nothing { result.status ≡ 8 → K.held sink.new ≡ K.held sink.old }
     ensures no_fault { result.status ≡ 8 → K.faults sink.new ≡ K.faults sink.old }
+    ensures puts_once { K.faults sink.new ≤ K.faults sink.old + 1 }
 
     // The source's count of faults, and the bytes that were taken.
     ensures read_fault { result.status ≡ 6 → CountsFault (S.faults source.old) (S.faults source.new) }
     ensures reads { CountsRead result.end (S.faults source.old) (S.faults source.new) }
-    ensures takes { TakesAtMost 129 (S.left source.old) (S.left source.new) }
+    ensures takes { Takes result.end (S.left source.old) (S.left source.new) }
+    ensures takes_once { S.faults source.new ≤ S.faults source.old + 1 }
 
     ensures answer { IsFlashed result.end }
 {
@@ -62,7 +64,7 @@ pub fn run<S: Source, K: Sink>(
 
 /// What the words and the input come to.
 fn work<S: Source>(alloc: Global, words: &Vec<Word>, source: &mut S) -> End
-    ensures takes { TakesAtMost 129 (S.left source.old) (S.left source.new) }
+    ensures takes { Takes result (S.left source.old) (S.left source.new) }
     ensures reads { CountsRead result (S.faults source.old) (S.faults source.new) }
     ensures answer { IsFlashed result }
 {
@@ -72,7 +74,7 @@ fn work<S: Source>(alloc: Global, words: &Vec<Word>, source: &mut S) -> End
     let table = match read_all(alloc, source, LIMIT) {
         Ok(table) => table,
         Err(ReadStop::Failed) => return End::Read,
-        Err(ReadStop::TooLong) => return End::Unbuilt,
+        Err(ReadStop::TooLong) => return End::TooLong,
         Err(ReadStop::Memory) => return End::Memory,
     };
     let Some(case) = read_case(&asked, &table) else {

@@ -19,15 +19,14 @@ pub record TakesAtMost (most : ℕ) (left left' : Option (List ℕ)) : Type 0 wh
   pub short : length bytes ≤ most
   pub taken : left ≡ ahead bytes left'
 
--- one byte past the limit was taken, and no call failed
-pub record PassesLimit (limit : ℕ) (left left' : Option (List ℕ)) (faults faults' : ℕ) : Type 0 where
+-- so many bytes were taken
+pub record TakesExactly (count : ℕ) (left left' : Option (List ℕ)) : Type 0 where
   pub bytes : List ℕ
-  pub long : length bytes ≡ limit + 1
+  pub counted : length bytes ≡ count
   pub taken : left ≡ ahead bytes left'
-  pub no_fault : faults' ≡ faults
 
 -- why it stopped before the end
 abbrev pub StopsReading : ReadStop → ℕ → Option (List ℕ) → Option (List ℕ) → ℕ → ℕ → Type 0
 StopsReading Failed limit left left' faults faults' = TakesAtMost limit left left' × CountsFault faults faults'
-StopsReading TooLong limit left left' faults faults' = PassesLimit limit left left' faults faults'
+StopsReading TooLong limit left left' faults faults' = TakesExactly (limit + 1) left left' × (faults' ≡ faults)
 StopsReading Memory limit left left' faults faults' = TakesAtMost (limit + 1) left left' × (faults' ≡ faults)
