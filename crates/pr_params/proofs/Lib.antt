@@ -9,3 +9,5 @@ pub mod Made
 pub mod Accepted
 pub mod Signed
 pub mod Mean
+pub mod Argument
+pub mod Lambda

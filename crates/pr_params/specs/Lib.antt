@@ -1,3 +1,4 @@
 pub mod Held
 pub mod Boxes
 pub mod One
+pub mod Packings
