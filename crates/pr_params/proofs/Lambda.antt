@@ -16,7 +16,10 @@ use Rattle.log_laws.proofs.Terms.{one, over_den, lowered, quotient_at_least, min
 use Rattle.log_enclose.proofs.Bounds.{log_down_at_least, log_up_at_most}
 use Rattle.case_types.specs.Bounds.{lambda_up, lambda_down, stretched_up, stretched_down}
 use Rattle.case_types.specs.Divisions.{bits, log_of, minus_log_of, attraction_argument}
-use Rattle.case_types.specs.Numbers.{Numbers}
+use Rattle.case_types.specs.declared.cases.Case.{Case}
+use Rattle.case_types.specs.Instances.{Instance, IsInstance}
+use Rattle.case_types.specs.Numbers.{Numbers, numbers_of, enclosures_of}
+use Rattle.pr_params.proofs.Accepted.{two_exact}
 use Rattle.pr_params.specs.Packings.{IsPacking}
 use Rattle.pr_params.proofs.Argument.{IsRoot, IsShare, room, by_quotients, argument_parts}
 
@@ -211,3 +214,17 @@ module _ (p : Numbers) (s y : Fraction) (two : p.root_two ≡ two_ends) (between
       at_quotients (λ s y. IsPositive (attraction_argument s y))
       (λ sn sd yn yd Rd root share pos_rd is.
       (quotient_of_parts (parts sn sd yn yd Rd root share pos_rd is) (above_pos sn sd yn yd Rd root share pos_rd is)).positive)
+
+-- ---- for an instance of a case
+-- the root of 2 of an instance lies between the ends of the numbers
+pub instance_root : (c : Case) (x : Instance) → IsInstance c (enclosures_of c) x → IsBetween (numbers_of c).root_two (2 ^ 60) x.root_two
+unfolding numbers_of
+instance_root c x i = i.root_two
+
+pub instance_lambda_most : (c : Case) (x : Instance) (y : Fraction) (Y : ℕ) (z : ℤ) → z ≡ lambda_up (numbers_of c) Y → Y ≤ 2 ^ 40 → IsInstance c (enclosures_of c) x → IsPacking y →
+    IsAtMost y (ratio Y (2 ^ 40)) → AtMost (log_of (attraction_argument x.root_two y)) (bits z)
+instance_lambda_most c x y Y z e within i packing below = rw e (lambda_most (numbers_of c) x.root_two y (two_exact c) (instance_root c x i) packing Y within below)
+
+pub instance_lambda_least : (c : Case) (x : Instance) (y : Fraction) (Y : ℕ) (z : ℤ) → z ≡ lambda_down (numbers_of c) Y → Y ≤ 2 ^ 40 → IsInstance c (enclosures_of c) x → IsPacking y →
+    IsAtMost (ratio Y (2 ^ 40)) y → AtLeast (log_of (attraction_argument x.root_two y)) (bits z)
+instance_lambda_least c x y Y z e within i packing above = rw e (lambda_least (numbers_of c) x.root_two y (two_exact c) (instance_root c x i) packing Y within above)
