@@ -11,3 +11,4 @@ pub mod Signed
 pub mod Mean
 pub mod Argument
 pub mod Lambda
+pub mod Pull
