@@ -1,5 +1,5 @@
 -- The attraction term, -A / (2 s B) times a logarithm, from ends of A / B, of s and of the logarithm.
-use Rattle.std.proofs.Common.{ℕ, zero, suc, ◌+◌, ◌*◌, ◌^◌, ◌≤◌, ◌<◌, ◌≡◌, refl, arith, lit<, ◌⊎◌, inl, inr, ℤ, pos, negsuc, neg_ℤ, ◌*ℤ◌, ◌≤ℤ◌}
+use Rattle.std.proofs.Common.{ℕ, zero, suc, ◌+◌, ◌*◌, ◌^◌, ◌≤◌, ◌<◌, ◌≡◌, refl, subst, arith, lit<, ◌⊎◌, inl, inr, ℤ, pos, negsuc, neg_ℤ, ◌*ℤ◌, ◌≤ℤ◌}
 use Rattle.std.proofs.Math.Nat.{mul-le-mul_right, le_of_mul-le-mul_right}
 use Rattle.std.proofs.lemmas.Int.{ints}
 use borrow.Author.Differences.{up, down, at_most_in, le_out, product_is, neg_is}
@@ -142,6 +142,36 @@ module _ (a A : Fraction) (sn sd bn bd : ℕ) (ha : IsFraction a) (psn : 0 < sn)
           (lost kn kd C)
           (at_least_scales (negated k) (log_of A) (bits (pos 0)) f.den_pos (not_negative f) least))
 
+  most_at : (sh G L : ℕ) (c : ℤ) → 0 < sh → sn * 2 ^ 60 ≤ sh * sd → IsAtMost (bits (pos G)) (quotient_of a (ratio bn bd)) → up c * sh ≤ G * L * 2 ^ 19 + down c * sh →
+      AtLeast (log_of A) (bits (pos L)) → AtLeast (times_log (negated (negated k)) A) (bits c)
+  most_at sh G L c some root share room least =
+      let kn = up a.num * sd * bd in
+      let h = parts_of_at_most (parts_self (pos G) (2 ^ 40) (lit< tt)) ratio_parts share in
+      let e : down a.num ≡ 0 = none_off (up a.num) (down a.num) a.den bn bd G pbd (one_part a.num) (omega (arith, h)) in
+      let f : IsParts k kn 0 kd = parts_respelled factor factor.d_pos (rw e (omega arith)) in
+      let h' = rw e at h in
+      let o = scaled_above kn kd L (up c) (down c) sh G some (factor_above (up a.num) a.den bn bd sn sd sh G (omega (arith, h')) root) room in
+      times_scaled k one (negated (negated k)) A (bits c) f.den_pos f.den_pos (twice k f.den_pos) pA
+      (lowered (scaled k (log_of A)) (product_of k (bits (pos L))) (bits c)
+      (parts_product f (parts_self (pos L) (2 ^ 40) (lit< tt))) (parts_self c (2 ^ 40) (lit< tt))
+      (last kn kd L (up c) (down c) o)
+      (at_least_scales k (log_of A) (bits (pos L)) f.den_pos (not_negative f) least))
+    where
+      none_off : (u v ad bn bd G : ℕ) → 0 < bd → (v ≡ 0) ⊎ (u ≡ 0) → G * (ad * bn) + v * bd * 2 ^ 40 ≤ u * bd * 2 ^ 40 → v ≡ 0
+      none_off u v ad bn bd G h (inl e) l = e
+      none_off u zero ad bn bd G h (inr e) l = refl
+      none_off u (suc v) ad bn bd G h (inr e) l = let l' = rw e at l in let p = product_pos (suc v) bd (omega arith) h in absurd (omega (arith, l', p))
+
+      last : (kn d L cu cd : ℕ) → cu * d ≤ kn * L + cd * d → cu * (d * 2 ^ 40) + (kn * 0 + 0 * L) * 2 ^ 40 ≤ (kn * L + 0 * 0) * 2 ^ 40 + cd * (d * 2 ^ 40)
+      last kn d L cu cd l = omega arith
+
+      twice : (f : Fraction) → IsFraction f → IsSame (product_of f one) (negated (negated f))
+      twice f h =
+          same_of_parts (parts_product (parts_self f.num f.den h) parts_one) (parts_negated (parts_negated (parts_self f.num f.den h))) (sides (up f.num) (down f.num) f.den)
+        where
+          sides : (u v d : ℕ) → (u * 1 + v * 0) * d + v * (d * 1) ≡ u * (d * 1) + (u * 0 + v * 1) * d
+          sides u v d = omega arith
+
 -- a logarithm that isn't negative has an upper end that isn't
 end_not_negative : (A : Fraction) (l : ℤ) → IsPositive A → AtLeast (minus_log_of A) (bits (neg_ℤ l)) → AtLeast (log_of A) (bits (pos 0)) → pos 0 ≤ℤ l
 end_not_negative A l pA minus least =
@@ -180,3 +210,38 @@ pull_least s a b A sl g l c some ps pb ha pA root gp share room minus least =
   where
     order_out : {m n : ℕ} → pos m ≤ℤ pos n → m ≤ n
     order_out {m} {n} l = let q = le_out (pos m) (pos n) l in omega (arith, q)
+
+-- ---- and at most
+-- what the product says of the parts of c, where the logarithm is natural and where it is negative
+parts_natural : (G L sh : ℕ) (c : ℤ) → (c *ℤ pos sh) ≤ℤ pos (G * L * 2 ^ 19) → up c * sh ≤ G * L * 2 ^ 19 + down c * sh
+parts_natural G L sh c l = let q = le_out (c *ℤ pos sh) (pos (G * L * 2 ^ 19)) l in omega (arith, q, product_is c (pos sh))
+
+parts_negative : (G m sh : ℕ) (c : ℤ) → (c *ℤ pos sh) ≤ℤ (pos G *ℤ negsuc m *ℤ pos (2 ^ 19)) → up c * sh ≤ G * 0 * 2 ^ 19 + down c * sh
+parts_negative G m sh c l =
+    let q = le_out (c *ℤ pos sh) (pos G *ℤ negsuc m *ℤ pos (2 ^ 19)) l in
+    omega (arith, q, product_is c (pos sh), product_is (pos G *ℤ negsuc m) (pos (2 ^ 19)), product_is (pos G) (negsuc m))
+
+pub pull_most : (s a b A : Fraction) (sh : ℕ) (g l c : ℤ) → 0 < sh → IsPositive s → IsPositive b → IsFraction a → IsPositive A → IsAtMost s (ratio sh (2 ^ 60)) →
+    pos 0 ≤ℤ g → IsAtMost (bits g) (quotient_of a b) → (c *ℤ pos sh) ≤ℤ (g *ℤ l *ℤ pos (2 ^ 19)) →
+    AtLeast (log_of A) (bits l) → AtLeast (log_of A) (bits (pos 0)) → AtMost (times_log (negated (pull_factor s a b)) A) (bits (neg_ℤ c))
+pull_most s a b A sh g l c some ps pb ha pA root gp share room least least_none =
+    by_natural (λ g. IsAtMost (bits g) (quotient_of a b) → (c *ℤ pos sh) ≤ℤ (g *ℤ l *ℤ pos (2 ^ 19)) → AtMost (times_log (negated (pull_factor s a b)) A) (bits (neg_ℤ c))) g gp
+    (λ G share room.
+    by_ratio (λ s. IsAtMost s (ratio sh (2 ^ 60)) → AtMost (times_log (negated (pull_factor s a b)) A) (bits (neg_ℤ c))) s ps
+    (λ sn sd psn psd root.
+    by_ratio (λ b. IsAtMost (bits (pos G)) (quotient_of a b) → AtMost (times_log (negated (pull_factor (ratio sn sd) a b)) A) (bits (neg_ℤ c))) b pb
+    (λ bn bd pbn pbd share.
+    (at_most_is_opposite (times_log (negated (pull_factor (ratio sn sd) a (ratio bn bd))) A) (bits (neg_ℤ c))).1
+    (subst (λ (z : ℤ). AtLeast (times_log (negated (negated (pull_factor (ratio sn sd) a (ratio bn bd)))) A) (bits z)) (back c)
+    (by_sign a A sn sd bn bd ha psn psd pbn pbd pA sh G l c some (order_of_ratios sn sd sh (2 ^ 60) psd (lit< tt) root) share room least least_none))) share) root) share room
+  where
+    back : (z : ℤ) → z ≡ neg_ℤ (neg_ℤ z)
+    back z = omega (arith, ints)
+
+    by_sign : (a A : Fraction) (sn sd bn bd : ℕ) → IsFraction a → 0 < sn → 0 < sd → 0 < bn → 0 < bd → IsPositive A → (sh G : ℕ) (l c : ℤ) → 0 < sh → sn * 2 ^ 60 ≤ sh * sd →
+        IsAtMost (bits (pos G)) (quotient_of a (ratio bn bd)) → (c *ℤ pos sh) ≤ℤ (pos G *ℤ l *ℤ pos (2 ^ 19)) →
+        AtLeast (log_of A) (bits l) → AtLeast (log_of A) (bits (pos 0)) → AtLeast (times_log (negated (negated (pull_factor (ratio sn sd) a (ratio bn bd)))) A) (bits c)
+    by_sign a A sn sd bn bd ha psn psd pbn pbd pA sh G (pos L) c some root share room least least_none =
+        most_at a A sn sd bn bd ha psn psd pbn pbd pA sh G L c some root share (parts_natural G L sh c room) least
+    by_sign a A sn sd bn bd ha psn psd pbn pbd pA sh G (negsuc m) c some root share room least least_none =
+        most_at a A sn sd bn bd ha psn psd pbn pbd pA sh G 0 c some root share (parts_negative G m sh c room) least_none
