@@ -1,2 +1,4 @@
 pub mod Terms
 pub mod PlaneEnds
+pub mod Tangents
+pub mod Volume
