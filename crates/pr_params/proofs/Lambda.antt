@@ -81,7 +81,7 @@ at_difference s q r d h x =
     scaled_by d x y u v u' v' e = let e' : (x + v + v') * d ≡ (y + u + u') * d = ap (λ (n : ℕ). n * d) e in omega arith
 
 -- the argument under its own spelling
-respelled : (f : Fraction) (a : Fraction) (u d : ℕ) (r : Fraction) → 0 < f.den → IsParts a u 0 d → 0 < u → AtLeast (times_log f (ratio u d)) r → AtLeast (times_log f a) r
+pub respelled : (f : Fraction) (a : Fraction) (u d : ℕ) (r : Fraction) → 0 < f.den → IsParts a u 0 d → 0 < u → AtLeast (times_log f (ratio u d)) r → AtLeast (times_log f a) r
 respelled f a u d r h p pu x =
     at_least-same (times_log f (ratio u d)) (times_log f a) r
     (record { fraction = lit< tt; rest = refl; terms = (same_argument_of f h p pu, tt) }) x

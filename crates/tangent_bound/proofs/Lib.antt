@@ -2,3 +2,4 @@ pub mod Terms
 pub mod PlaneEnds
 pub mod Tangents
 pub mod Volume
+pub mod Mixing
