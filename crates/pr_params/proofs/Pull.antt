@@ -34,8 +34,8 @@ not_negative {f} {u} {d} p = made f.num f.den p.d_pos p.is
 
 -- a whole number that isn't negative is natural
 pub by_natural : (P : ℤ → Type 0) (z : ℤ) → pos 0 ≤ℤ z → ((n : ℕ) → P (pos n)) → P z
-pub by_natural P (pos n) h k = k n
-pub by_natural P (negsuc n) h k = absurd (omega (arith, ints, h))
+by_natural P (pos n) h k = k n
+by_natural P (negsuc n) h k = absurd (omega (arith, ints, h))
 
 -- ---- whole numbers
 -- A / B at most G / 2 ^ 40 and s at least sl / 2 ^ 60

@@ -3,3 +3,4 @@ pub mod PlaneEnds
 pub mod Tangents
 pub mod Volume
 pub mod Mixing
+pub mod EnergyLow
