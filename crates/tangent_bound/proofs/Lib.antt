@@ -4,3 +4,4 @@ pub mod Tangents
 pub mod Volume
 pub mod Mixing
 pub mod EnergyLow
+pub mod PlaneBound
