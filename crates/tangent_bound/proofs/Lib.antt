@@ -5,3 +5,4 @@ pub mod Volume
 pub mod Mixing
 pub mod EnergyLow
 pub mod PlaneBound
+pub mod CellLow
