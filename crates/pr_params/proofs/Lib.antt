@@ -12,3 +12,4 @@ pub mod Mean
 pub mod Argument
 pub mod Lambda
 pub mod Pull
+pub mod Sized

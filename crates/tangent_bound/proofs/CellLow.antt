@@ -9,7 +9,7 @@ use Rattle.log_laws.proofs.Parts.{product_pos}
 use Rattle.log_laws.proofs.Ring.{mul-le_ℤ, add-mul_ℤ, neg-mul, scale_scale}
 use Rattle.log_laws.proofs.Sums.{at_least_lowers}
 use Rattle.case_types.specs.declared.cases.Case.{Case}
-use Rattle.case_types.specs.Bounds.{Box, one, energy_low, plane_high}
+use Rattle.case_types.specs.Bounds.{Box, one, energy_low, plane_high, ratio_high}
 use Rattle.case_types.specs.Cells.{Region, box_of_region, free_sum, plain_low, IsWithin}
 use Rattle.case_types.specs.Divisions.{State, IsState, moles, bits, energy_of}
 use Rattle.case_types.specs.Holding.{HoldsParameters, HoldsMeans, IsInBox}
@@ -17,7 +17,8 @@ use Rattle.case_types.specs.Instances.{Instance}
 use Rattle.case_types.specs.Numbers.{Numbers}
 use Rattle.case_types.specs.Sums.{sum_below, list_below}
 use Rattle.case_types.specs.Weighing.{plane_sum, IsAbovePlane}
-use Rattle.tangent_bound.proofs.EnergyLow.{IsSized, energy_at_least}
+use Rattle.pr_params.proofs.Sized.{IsSized}
+use Rattle.tangent_bound.proofs.EnergyLow.{energy_at_least}
 use Rattle.tangent_bound.proofs.PlaneBound.{plane_at_most}
 use Rattle.tangent_bound.proofs.PlaneEnds.{low_is}
 
@@ -120,10 +121,10 @@ in_box n r f small some within = record { above = above; below = below }
         ])
 
 -- ---- the low of a cell
-pub low_holds : (c : Case) (p : Numbers) (x : Instance) (lams : List ℤ) (r : Region) (f : State) → c.n ≤ 4 → IsSized c.n p (box_of_region c.n r) → r.yhi ≤ 2 ^ 40 →
+pub low_holds : (c : Case) (p : Numbers) (x : Instance) (lams : List ℤ) (r : Region) (f : State) → c.n ≤ 4 → IsSized c.n p (box_of_region c.n r) → pos 0 ≤ℤ ratio_high p (box_of_region c.n r) → r.yhi ≤ 2 ^ 40 →
     HoldsParameters c p x → HoldsMeans c p x (box_of_region c.n r) f → IsWithin c.n r f → IsState c.n f →
     IsAbovePlane c x (λ i. slice_index_or lams i (pos 0)) (plain_low p lams r) f
-low_holds c p x lams r f small sized packed holds means within state =
+low_holds c p x lams r f small sized ratio packed holds means within state =
     let box = box_of_region c.n r in
     let energy = energy_low p box r.ylo r.yhi in
     let plane = plane_high c.n lams box in
@@ -132,5 +133,5 @@ low_holds c p x lams r f small sized packed holds means within state =
     (record {
       at_least = above_plane (energy_of c x f) energy plane (plane_sum c.n (λ i. slice_index_or lams i (pos 0)) f.parts) (moles c.n f) state.some
           (plane_at_most c.n lams box f inside)
-          (energy_at_least c p x box f r.ylo r.yhi sized packed holds means inside state within.denser within.thinner);
+          (energy_at_least c p x box f r.ylo r.yhi sized ratio packed holds means inside state within.denser within.thinner);
     })

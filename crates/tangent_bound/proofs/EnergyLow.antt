@@ -26,8 +26,9 @@ use Rattle.pr_params.specs.Packings.{IsPacking}
 use Rattle.pr_params.proofs.Argument.{positive_between, packing_positive}
 use Rattle.pr_params.proofs.Lambda.{two_ends, respelled, minus_lambda_least, log_not_negative, argument_positive}
 use Rattle.pr_params.proofs.Pull.{by_natural, pull_least}
+use Rattle.pr_params.proofs.Sized.{e_ends, IsSized, ends_ordered}
 use Rattle.tangent_bound.proofs.Mixing.{mixing_least}
-use Rattle.tangent_bound.proofs.Volume.{e_ends, volume_part_least}
+use Rattle.tangent_bound.proofs.Volume.{volume_part_least}
 
 -- ---- the pieces
 -- the ends of what lies between them, apart
@@ -113,18 +114,6 @@ pull_piece p s a b y g yh e hold pb ha packing gp share to within =
     (minus_lambda_least p s y e hold packing yh within to) (log_not_negative p s y e hold packing)
 
 -- ---- the sum
--- what the lows need to know of the numbers and of the box
-pub record IsSized (n : ℕ) (p : Numbers) (box : Box) : Type 0 where
-  pub count : p.count ≡ n
-  pub root_two : p.root_two ≡ two_ends
-  pub log_e : p.log_e ≡ e_ends
-  pub lift : p.lift ≤ 29
-  pub covolume_low : pos (2 ^ 60) ≤ℤ (covolume_range p box).lo
-  pub covolume_between : (covolume_range p box).lo ≤ℤ (covolume_range p box).hi
-  pub covolume_high : (covolume_range p box).hi ≤ℤ pos (2 ^ 61)
-  pub ratio : pos 0 ≤ℤ ratio_high p box
-  pub fractions : (i : ℕ) → i < n → slice_index box.hi i ≤ 2 ^ 40
-
 -- a sum of fractions is a fraction
 sum_is_fraction : (n : ℕ) (f : ℕ → Fraction) → ((i : ℕ) → i < n → IsFraction (f i)) → IsFraction (fraction_sum_below n f)
 unfolding fraction_sum_below
@@ -166,12 +155,12 @@ energy_low_from p box yl yh n e =
 pub state_packing : (n : ℕ) (f : State) → IsState n f → IsPacking f.packing
 state_packing n f s = record { is_fraction = s.is_fraction; not_empty = s.not_empty; not_full = s.not_full }
 
-pub energy_at_least : (c : Case) (p : Numbers) (x : Instance) (box : Box) (f : State) (yl yh : ℕ) → IsSized c.n p box → yh ≤ 2 ^ 40 →
+pub energy_at_least : (c : Case) (p : Numbers) (x : Instance) (box : Box) (f : State) (yl yh : ℕ) → IsSized c.n p box → pos 0 ≤ℤ ratio_high p box → yh ≤ 2 ^ 40 →
     HoldsParameters c p x → HoldsMeans c p x box f → IsInBox c.n box f → IsState c.n f →
     pos (yl * f.packing.den) ≤ℤ (f.packing.num *ℤ pos (2 ^ 40)) → (f.packing.num *ℤ pos (2 ^ 40)) ≤ℤ pos (yh * f.packing.den) →
     AtLeast (energy_of c x f) (bits (energy_low p box yl yh))
 unfolding energy_of
-energy_at_least c p x box f yl yh sized within holds means inside state from to =
+energy_at_least c p x box f yl yh sized ratio within holds means inside state from to =
     let o : 0 < 2 ^ 40 = lit< tt in
     let b = mean_covolume c f in
     let a = mean_attraction c x f in
@@ -179,7 +168,7 @@ energy_at_least c p x box f yl yh sized within holds means inside state from to 
     let v = covolume_range p box in
     let packing = state_packing c.n f state in
     let pb = covolume_positive v (2 ^ (56 + p.lift)) b sized.covolume_low means.covolume in
-    let hi : pos (2 ^ 60) ≤ℤ v.hi = omega (arith, ints, sized.covolume_low, sized.covolume_between) in
+    let hi : pos (2 ^ 60) ≤ℤ v.hi = omega (arith, ints, sized.covolume_low, ends_ordered v (2 ^ (56 + p.lift)) b means.covolume) in
     let z1 = int_sum_below c.n (λ i. mixing_low p (slice_index box.lo i) (slice_index box.hi i)) in
     let z2 = volume_low p v.lo yl yh in
     let z3 = neg_ℤ (log_up (unsigned_abs v.hi) (56 + p.lift)) in
@@ -194,7 +183,7 @@ energy_at_least c p x box f yl yh sized within holds means inside state from to 
     let x2 = volume_piece p x.log_e b y yl yh v sized.log_e sized.lift sized.covolume_low holds.log_e means.covolume packing from to within in
     let x3 = covolume_piece b (56 + p.lift) v pb sized.covolume_high hi means.covolume in
     let x4 = rest_piece y yl packing from in
-    let x5 = pull_piece p x.root_two a b y (ratio_high p box) yh sized.root_two holds.root_two pb (mean_attraction_is_fraction c p x f holds state.some) packing sized.ratio means.ratio_high to within in
+    let x5 = pull_piece p x.root_two a b y (ratio_high p box) yh sized.root_two holds.root_two pb (mean_attraction_is_fraction c p x f holds state.some) packing ratio means.ratio_high to within in
     let x45 = at_least_adds_at s4 s5 z4 z5 (2 ^ 40) o x4 x5 in
     let x35 = at_least_adds_at s3 (added s4 s5) z3 (z4 +ℤ z5) (2 ^ 40) o x3 x45 in
     let x25 = at_least_adds_at s2 (added s3 (added s4 s5)) z2 (z3 +ℤ (z4 +ℤ z5)) (2 ^ 40) o x2 x35 in

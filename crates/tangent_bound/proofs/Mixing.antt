@@ -20,9 +20,10 @@ use Rattle.case_types.specs.Divisions.{State, moles, bits, mixing_of, mixing}
 use Rattle.case_types.specs.Holding.{IsInBox}
 use Rattle.case_types.specs.Numbers.{Numbers}
 use Rattle.case_types.specs.Sums.{int_sum_below, log_sum_below}
+use Rattle.pr_params.proofs.Sized.{e_ends}
 use Rattle.tangent_bound.proofs.Tangents.{IsRight, below}
 use Rattle.tangent_bound.proofs.Terms.{mixing_none, mixing_some}
-use Rattle.tangent_bound.proofs.Volume.{e_ends, e_right}
+use Rattle.tangent_bound.proofs.Volume.{e_right}
 
 -- e is at most b * z / o and at most (a * z - ch * (b - a)) / o, where b is a + w
 record IsUnder (a w ch o : ℕ) (z e : ℤ) : Type 0 where

@@ -12,6 +12,7 @@ use Rattle.case_types.specs.Divisions.{State, moles}
 use Rattle.case_types.specs.Holding.{IsInBox}
 use Rattle.case_types.specs.Sums.{sum_below, int_sum_below, greatest_below}
 use Rattle.case_types.specs.Weighing.{plane_sum}
+use Rattle.pr_params.proofs.Sized.{cancelled}
 
 -- ---- by the greatest potential
 greatest_above : (n : ℕ) (f : ℕ → ℤ) (first : ℤ) (i : ℕ) → i < n → f i ≤ℤ greatest_below n f first
@@ -92,12 +93,6 @@ by_rest (suc k) f r p = joined (int_sum_below k (λ i. f i *ℤ pos (p i))) (int
     joined : (s t x r : ℤ) (m n : ℕ) → s ≡ r *ℤ pos m +ℤ t → s +ℤ x *ℤ pos n ≡ r *ℤ pos (m + n) +ℤ (t +ℤ (x -ℤ r) *ℤ pos n)
     joined s t x r m n e =
         rw (e, mul-add_ℤ r (pos m) (pos n), add-mul_ℤ x (neg_ℤ r) (pos n), neg-mul r (pos n)) (omega (arith, ints))
-
--- a factor that is not 0 is taken off both sides
-cancelled : (a b : ℤ) (n : ℕ) → 0 < n → (a *ℤ pos n) ≤ℤ (b *ℤ pos n) → a ≤ℤ b
-cancelled a b n h l =
-    let q = le_out (a *ℤ pos n) (b *ℤ pos n) l in
-    at_most_in a b (le_of_mul-le-mul_right {k = n} (let x = product_is a (pos n) in let y = product_is b (pos n) in omega (arith, q, x, y)) h)
 
 -- ---- the plane
 abbrev potential : List ℤ → ℕ → ℤ

@@ -17,6 +17,7 @@ use Rattle.case_types.specs.Divisions.{bits, volume_part}
 use Rattle.case_types.specs.Numbers.{Numbers}
 use Rattle.pr_params.specs.Packings.{IsPacking}
 use Rattle.pr_params.proofs.Argument.{positive_between, packing_positive}
+use Rattle.pr_params.proofs.Sized.{e_ends}
 use Rattle.tangent_bound.proofs.Tangents.{IsRight, tangent_at}
 use Rattle.tangent_bound.proofs.Terms.{volume_upper, volume_lower, volume_flat}
 
@@ -159,10 +160,6 @@ volume_at_quotients p yn yd yl yh rn rd blo m cl ch right packing prd pcl ends s
     P z = AtLeast (added (times_log one (ratio yn yd)) (constant (ratio rn rd))) (bits z)
 
 -- ---- for fractions between ends
--- the ends of the logarithm of e
-abbrev pub e_ends : Ends
-e_ends = record { lo = pos 1586259924992; hi = pos 1586260020565 }
-
 pub e_right : IsRight (2 ^ 24) 1586259924992 1586260020565 (2 ^ 40)
 e_right = record { m_pos = lit< tt; o_pos = lit< tt; low = low_of_e; high = high_of_e }
 

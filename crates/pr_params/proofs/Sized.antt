@@ -1,0 +1,82 @@
+-- How large the numbers of a case are over a box: what the bounds of energies need to know.
+use Rattle.std.proofs.Common.{ℕ, zero, suc, ◌+◌, ◌*◌, ◌^◌, ◌<◌, ◌≤◌, ◌≡◌, Bool, true, false, ◌&&◌, nat_le, IsTrue, refl, sym, subst, arith, lit<, inl, inr, None, List, ℤ, pos, ◌*ℤ◌, ◌≤ℤ◌, slice_index}
+use Rattle.std.proofs.Math.Nat.{le_of_mul-le-mul_right}
+use Rattle.std.proofs.lemmas.Bool.{cases_lt}
+use Rattle.std.proofs.lemmas.Int.{ints}
+use borrow.Author.Differences.{le_out, at_most_in, product_is}
+use Rattle.log_laws.specs.Between.{Ends, IsBetween}
+use Rattle.log_laws.specs.Fraction.{Fraction}
+use Rattle.log_laws.proofs.Ring.{≤ℤ_trans}
+use Rattle.case_types.specs.declared.cases.Case.{Case}
+use Rattle.case_types.specs.Bounds.{Box, covolume_range}
+use Rattle.case_types.specs.Faults.{fault_of}
+use Rattle.case_types.specs.Numbers.{Numbers, numbers_of}
+use Rattle.case_types.specs.Ranges.{is_each_up_to}
+use Rattle.case_types.specs.Sums.{all_below}
+use Rattle.pr_params.proofs.Accepted.{two_exact, e_exact, lift_small, covolume_sizes}
+use Rattle.pr_params.proofs.Lambda.{two_ends}
+use Rattle.pr_params.proofs.Mean.{range_is}
+
+-- the ends of the logarithm of e
+abbrev pub e_ends : Ends
+e_ends = record { lo = pos 1586259924992; hi = pos 1586260020565 }
+
+-- the numbers count n components, and so large are the ends over the box
+pub record IsSized (n : ℕ) (p : Numbers) (box : Box) : Type 0 where
+  pub count : p.count ≡ n
+  pub root_two : p.root_two ≡ two_ends
+  pub log_e : p.log_e ≡ e_ends
+  pub lift : p.lift ≤ 29
+  pub covolume_low : pos (2 ^ 60) ≤ℤ (covolume_range p box).lo
+  pub covolume_high : (covolume_range p box).hi ≤ℤ pos (2 ^ 61)
+  pub fractions : (i : ℕ) → i < n → slice_index box.hi i ≤ 2 ^ 40
+
+-- the numbers count the components of their case
+count_of : (c : Case) → (numbers_of c).count ≡ c.n
+unfolding numbers_of
+count_of c = refl
+
+pub sized_one : (c : Case) (box : Box) → c.n ≡ 1 → fault_of c ≡ None → ((i : ℕ) → i < c.n → slice_index box.hi i ≤ 2 ^ 40) → IsSized c.n (numbers_of c) box
+sized_one c box h e small =
+    let is = sym (range_is c box h e) in
+    let size = covolume_sizes c h e in
+    record {
+      count = count_of c;
+      root_two = two_exact c;
+      log_e = e_exact c;
+      lift = lift_small c;
+      covolume_low = subst (λ (v : Ends). pos (2 ^ 60) ≤ℤ v.lo) is size.0;
+      covolume_high = subst (λ (v : Ends). v.hi ≤ℤ pos (2 ^ 61)) is size.1;
+      fractions = small;
+    }
+
+-- ---- fractions
+-- what holds below n holds at i
+all_at : (n : ℕ) (p : ℕ → Bool) → IsTrue (all_below n p) → (i : ℕ) → i < n → IsTrue (p i)
+all_at zero p h i l = absurd (omega (arith, l))
+all_at (suc n) p h i l = let q = both (all_below n p) (p n) h in elim (cases_lt i n) [
+  | inl less ↦ all_at n p q.0 i less
+  | inr last ↦ let e : i ≡ n = omega (arith, l, last) in rw e q.1
+]
+  where
+    both : (a b : Bool) → IsTrue (a && b) → IsTrue a × IsTrue b
+    both true b h = (refl, h)
+    both false b h = absurd (cc h)
+
+-- each entry is at most the limit
+pub each_up_to : (n : ℕ) (xs : List ℕ) (limit : ℕ) → IsTrue (is_each_up_to n xs limit) → (i : ℕ) → i < n → slice_index xs i ≤ limit
+each_up_to n xs limit h i l = at_most (slice_index xs i) limit (all_at n (λ i. nat_le (slice_index xs i) limit) h i l)
+  where
+    at_most : (a b : ℕ) → IsTrue (nat_le a b) → a ≤ b
+    at_most a b h = grind (arith, h)
+
+-- ---- ends in order
+-- a factor that is not 0 is taken off both sides
+pub cancelled : (a b : ℤ) (n : ℕ) → 0 < n → (a *ℤ pos n) ≤ℤ (b *ℤ pos n) → a ≤ℤ b
+cancelled a b n h l =
+    let q = le_out (a *ℤ pos n) (b *ℤ pos n) l in
+    at_most_in a b (le_of_mul-le-mul_right {k = n} (let x = product_is a (pos n) in let y = product_is b (pos n) in omega (arith, q, x, y)) h)
+
+-- ends with a fraction between them
+pub ends_ordered : (v : Ends) (scale : ℕ) (f : Fraction) → IsBetween v scale f → v.lo ≤ℤ v.hi
+ends_ordered v scale f b = cancelled v.lo v.hi f.den b.is_fraction (≤ℤ_trans (v.lo *ℤ pos f.den) (f.num *ℤ pos scale) (v.hi *ℤ pos f.den) b.above b.below)
