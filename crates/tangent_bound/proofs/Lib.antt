@@ -6,3 +6,4 @@ pub mod Mixing
 pub mod EnergyLow
 pub mod PlaneBound
 pub mod CellLow
+pub mod Held
