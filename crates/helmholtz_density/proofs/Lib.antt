@@ -1,2 +1,4 @@
 pub mod Mixes
 pub mod Energy
+pub mod MixingHigh
+pub mod EnergyHigh

@@ -14,4 +14,5 @@ pub mod Euler
 pub mod Tangent
 pub mod Parts
 pub mod Terms
+pub mod Uppers
 mod ByNumbers

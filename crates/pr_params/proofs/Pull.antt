@@ -82,7 +82,7 @@ one_part : (z : ℤ) → (down z ≡ 0) ⊎ (up z ≡ 0)
 one_part (pos n) = inl refl
 one_part (negsuc n) = inr refl
 
-times_minus_one : (f : Fraction) → IsFraction f → IsSame (product_of f (negated one)) (negated f)
+pub times_minus_one : (f : Fraction) → IsFraction f → IsSame (product_of f (negated one)) (negated f)
 times_minus_one f h =
     same_of_parts (parts_product (parts_self f.num f.den h) (parts_negated parts_one)) (parts_negated (parts_self f.num f.den h)) (sides (up f.num) (down f.num) f.den)
   where

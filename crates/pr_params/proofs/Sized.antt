@@ -5,14 +5,22 @@ use Rattle.std.proofs.lemmas.Bool.{cases_lt}
 use Rattle.std.proofs.lemmas.Int.{ints}
 use borrow.Author.Differences.{le_out, at_most_in, product_is}
 use Rattle.log_laws.specs.Between.{Ends, IsBetween}
-use Rattle.log_laws.specs.Fraction.{Fraction}
+use Rattle.log_laws.specs.Fraction.{Fraction, IsFraction, product_of}
+use Rattle.log_laws.specs.LogSum.{IsPositive}
+use Rattle.log_laws.proofs.Parts.{product_pos}
 use Rattle.log_laws.proofs.Ring.{≤ℤ_trans}
 use Rattle.case_types.specs.declared.cases.Case.{Case}
 use Rattle.case_types.specs.Bounds.{Box, covolume_range}
 use Rattle.case_types.specs.Faults.{fault_of}
 use Rattle.case_types.specs.Numbers.{Numbers, numbers_of}
 use Rattle.case_types.specs.Ranges.{is_each_up_to}
-use Rattle.case_types.specs.Sums.{all_below}
+use Rattle.case_types.specs.Divisions.{State, moles, mole_fraction, mean_attraction}
+use Rattle.case_types.specs.Holding.{HoldsParameters}
+use Rattle.case_types.specs.Instances.{Instance}
+use Rattle.case_types.specs.Parameters.{attraction}
+use Rattle.case_types.specs.Sums.{all_below, fraction_sum_below}
+use Rattle.pr_params.proofs.Argument.{positive_between}
+use Rattle.pr_params.proofs.Pull.{by_natural}
 use Rattle.pr_params.proofs.Accepted.{two_exact, e_exact, lift_small, covolume_sizes}
 use Rattle.pr_params.proofs.Lambda.{two_ends}
 use Rattle.pr_params.proofs.Mean.{range_is}
@@ -80,3 +88,27 @@ cancelled a b n h l =
 -- ends with a fraction between them
 pub ends_ordered : (v : Ends) (scale : ℕ) (f : Fraction) → IsBetween v scale f → v.lo ≤ℤ v.hi
 ends_ordered v scale f b = cancelled v.lo v.hi f.den b.is_fraction (≤ℤ_trans (v.lo *ℤ pos f.den) (f.num *ℤ pos scale) (v.hi *ℤ pos f.den) b.above b.below)
+
+-- the ends of what lies between them, apart
+pub between_apart : (v : Ends) (scale : ℕ) (f : Fraction) → IsBetween v scale f → IsBetween (record { lo = v.lo; hi = v.hi }) scale f
+between_apart v scale f b = record { is_fraction = b.is_fraction; above = b.above; below = b.below }
+
+-- an end of 2 ^ 60 at least is natural, and what lies above it is positive
+pub covolume_positive : (v : Ends) (scale : ℕ) (b : Fraction) → pos (2 ^ 60) ≤ℤ v.lo → IsBetween v scale b → IsPositive b
+covolume_positive v scale b low hold =
+    by_natural (λ z. pos (2 ^ 60) ≤ℤ z → IsBetween (record { lo = z; hi = v.hi }) scale b → IsPositive b) v.lo (omega (arith, ints, low))
+    (λ l low hold. positive_between l scale v.hi b (let q = le_out (pos (2 ^ 60)) (pos l) low in omega (arith, q)) hold) low (between_apart v scale b hold)
+
+-- ---- the means
+-- a sum of fractions is a fraction
+sum_is_fraction : (n : ℕ) (f : ℕ → Fraction) → ((i : ℕ) → i < n → IsFraction (f i)) → IsFraction (fraction_sum_below n f)
+unfolding fraction_sum_below
+sum_is_fraction zero f h = lit< tt
+sum_is_fraction (suc n) f h = product_pos (fraction_sum_below n f).den (f n).den (sum_is_fraction n f (λ i l. h i (omega (arith, l)))) (h n (omega arith))
+
+pub mean_attraction_is_fraction : (c : Case) (p : Numbers) (x : Instance) (f : State) → HoldsParameters c p x → 0 < moles c.n f → IsFraction (mean_attraction c x f)
+mean_attraction_is_fraction c p x f holds some =
+    sum_is_fraction c.n (λ i. product_of (mole_fraction c.n f i) (fraction_sum_below c.n (λ j. product_of (mole_fraction c.n f j) (attraction c x i j))))
+    (λ i l. product_pos (moles c.n f) (fraction_sum_below c.n (λ j. product_of (mole_fraction c.n f j) (attraction c x i j))).den some
+    (sum_is_fraction c.n (λ j. product_of (mole_fraction c.n f j) (attraction c x i j))
+    (λ j k. product_pos (moles c.n f) (attraction c x i j).den some (holds.attraction i j l k).is_fraction)))

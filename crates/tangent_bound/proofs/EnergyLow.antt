@@ -26,21 +26,12 @@ use Rattle.pr_params.specs.Packings.{IsPacking}
 use Rattle.pr_params.proofs.Argument.{positive_between, packing_positive}
 use Rattle.pr_params.proofs.Lambda.{two_ends, respelled, minus_lambda_least, log_not_negative, argument_positive}
 use Rattle.pr_params.proofs.Pull.{by_natural, pull_least}
-use Rattle.pr_params.proofs.Sized.{e_ends, IsSized, ends_ordered}
+use Rattle.pr_params.proofs.Sized.{e_ends, IsSized, ends_ordered, between_apart, covolume_positive, mean_attraction_is_fraction}
 use Rattle.tangent_bound.proofs.Mixing.{mixing_least}
 use Rattle.tangent_bound.proofs.Volume.{volume_part_least}
 
 -- ---- the pieces
--- the ends of what lies between them, apart
-between_apart : (v : Ends) (scale : ℕ) (f : Fraction) → IsBetween v scale f → IsBetween (record { lo = v.lo; hi = v.hi }) scale f
-between_apart v scale f b = record { is_fraction = b.is_fraction; above = b.above; below = b.below }
-
--- an end of 2 ^ 60 at least is natural, and what lies above it is positive
-covolume_positive : (v : Ends) (scale : ℕ) (b : Fraction) → pos (2 ^ 60) ≤ℤ v.lo → IsBetween v scale b → IsPositive b
-covolume_positive v scale b low hold =
-    by_natural (λ z. pos (2 ^ 60) ≤ℤ z → IsBetween (record { lo = z; hi = v.hi }) scale b → IsPositive b) v.lo (omega (arith, ints, low))
-    (λ l low hold. positive_between l scale v.hi b (let q = le_out (pos (2 ^ 60)) (pos l) low in omega (arith, q)) hold) low (between_apart v scale b hold)
-
+-- the volume term
 volume_piece : (p : Numbers) (c b y : Fraction) (yl yh : ℕ) (v : Ends) → p.log_e ≡ e_ends → p.lift ≤ 29 → pos (2 ^ 60) ≤ℤ v.lo →
     IsBetween p.log_e (2 ^ 40) c → IsBetween v (2 ^ (56 + p.lift)) b → IsPacking y →
     IsAtMost (ratio yl (2 ^ 40)) y → IsAtMost y (ratio yh (2 ^ 40)) → yh ≤ 2 ^ 40 → AtLeast (volume_part c b y) (bits (volume_low p v.lo yl yh))
@@ -114,19 +105,6 @@ pull_piece p s a b y g yh e hold pb ha packing gp share to within =
     (minus_lambda_least p s y e hold packing yh within to) (log_not_negative p s y e hold packing)
 
 -- ---- the sum
--- a sum of fractions is a fraction
-sum_is_fraction : (n : ℕ) (f : ℕ → Fraction) → ((i : ℕ) → i < n → IsFraction (f i)) → IsFraction (fraction_sum_below n f)
-unfolding fraction_sum_below
-sum_is_fraction zero f h = lit< tt
-sum_is_fraction (suc n) f h = product_pos (fraction_sum_below n f).den (f n).den (sum_is_fraction n f (λ i l. h i (omega (arith, l)))) (h n (omega arith))
-
-pub mean_attraction_is_fraction : (c : Case) (p : Numbers) (x : Instance) (f : State) → HoldsParameters c p x → 0 < moles c.n f → IsFraction (mean_attraction c x f)
-mean_attraction_is_fraction c p x f holds some =
-    sum_is_fraction c.n (λ i. product_of (mole_fraction c.n f i) (fraction_sum_below c.n (λ j. product_of (mole_fraction c.n f j) (attraction c x i j))))
-    (λ i l. product_pos (moles c.n f) (fraction_sum_below c.n (λ j. product_of (mole_fraction c.n f j) (attraction c x i j))).den some
-    (sum_is_fraction c.n (λ j. product_of (mole_fraction c.n f j) (attraction c x i j))
-    (λ j k. product_pos (moles c.n f) (attraction c x i j).den some (holds.attraction i j l k).is_fraction)))
-
 -- the low from its pieces, as they are added
 energy_low_from : (p : Numbers) (box : Box) (yl yh n : ℕ) → p.count ≡ n →
     int_sum_below n (λ i. mixing_low p (slice_index box.lo i) (slice_index box.hi i))
