@@ -2,3 +2,4 @@ pub mod Mixes
 pub mod Energy
 pub mod MixingHigh
 pub mod EnergyHigh
+pub mod Held
