@@ -4,13 +4,13 @@ use Rattle.std.proofs.lemmas.Int.{ints}
 use Rattle.std.proofs.lemmas.Bool.{cases_lt}
 use Rattle.case_types.specs.Cells.{Region, edge_to_halve}
 use Rattle.log_laws.specs.Whole.{floor_over}
-use Rattle.log_laws.proofs.Ring.{floor_over-le, lt-floor_over}
+use Rattle.log_laws.proofs.Exports.{floor_over-le, lt-floor_over}
 use Rattle.case_types.specs.declared.cases.Case.{Case}
 use Rattle.case_types.specs.Numbers.{numbers_of}
 use Rattle.case_types.specs.Bounds.{plane_at, plane_times}
 use Rattle.case_types.specs.Ranges.{is_each_below}
 use Rattle.pr_params.proofs.Component.{and_true}
-use Rattle.case_types.specs.Sums.{int_sum_below}
+use Rattle.log_laws.specs.Sums.{int_sum_below}
 
 abbrev pub pure : List ℕ
 pure = 2 ^ 20 ∷ 0 ∷ 0 ∷ 0 ∷ []

@@ -4,7 +4,7 @@ use Rattle.case_types.proofs.Samples.{critical_case, ternary_case}
 use Rattle.case_types.specs.Numbers.{numbers_of, enclosures_of, lift_of, lift_up_to}
 use Rattle.log_laws.specs.Between.{Ends}
 use Rattle.log_laws.specs.Roots.{root_digits, with_digit}
-use Rattle.case_types.specs.Sums.{list_below, greatest_below}
+use Rattle.log_laws.specs.Sums.{list_below, greatest_below}
 use Rattle.log_laws.specs.Squaring.{down, up}
 
 abbrev ends : ℕ → ℕ → Ends

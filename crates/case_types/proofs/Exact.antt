@@ -8,7 +8,7 @@ use Rattle.case_types.proofs.Samples.{binary_case}
 use Rattle.case_types.specs.Instances.{Instance, HoldsRoot, pair_place}
 use Rattle.case_types.specs.Parameters.{kappa_of, covolume, alpha_root, attraction}
 use Rattle.case_types.specs.Divisions.{State, mean_covolume, mean_attraction, attraction_argument, energy_of}
-use Rattle.case_types.specs.Sums.{fraction_sum_below, log_sum_below}
+use Rattle.log_laws.specs.Sums.{fraction_sum_below, log_sum_below}
 use Rattle.log_laws.specs.Between.{Ends, IsBetween}
 
 -- the order 12, 13, 14, 23, 24, 34

@@ -1,3 +1,5 @@
+pub mod Cover
+pub mod WeakDuality
 pub mod Samples
 mod ByNumbers
 mod Refusals

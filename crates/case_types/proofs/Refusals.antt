@@ -6,7 +6,7 @@ use Rattle.case_types.proofs.Samples.{ternary_case, negative_alpha_case, large_c
 use Rattle.case_types.specs.declared.cases.ParamFault.TheVariants.{BRange, BRatio, MRange, ARange}
 use Rattle.case_types.specs.Faults.{fault_of, first_below}
 use Rattle.case_types.specs.Numbers.{numbers_of, enclosures_of, lift_up_to}
-use Rattle.case_types.specs.Sums.{list_below, greatest_below, least_below}
+use Rattle.log_laws.specs.Sums.{list_below, greatest_below, least_below}
 
 pub no_fault : fault_of ternary_case ≡ None
 unfolding fault_of first_below numbers_of enclosures_of lift_up_to list_below greatest_below least_below root_digits with_digit down up

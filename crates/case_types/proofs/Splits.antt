@@ -10,7 +10,7 @@ use Rattle.case_types.specs.Bounds.{box_of_parts, covolume_range, ratio_low, rat
 use Rattle.case_types.specs.CaseWords.{feed}
 use Rattle.case_types.specs.Divisions.{Division, Divides, State, IsState, parts_in, state_of}
 use Rattle.case_types.specs.Numbers.{numbers_of, enclosures_of, lift_up_to}
-use Rattle.case_types.specs.Sums.{int_sum_below, list_below, greatest_below, least_below}
+use Rattle.log_laws.specs.Sums.{int_sum_below, list_below, greatest_below, least_below}
 use Rattle.case_types.proofs.Samples.{critical_case, binary_case, twin_case}
 
 -- the component under two names has one bit less

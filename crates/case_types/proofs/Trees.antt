@@ -1,7 +1,7 @@
 -- Small trees of cells, edges to halve, middles and cells that miss.
 use Rattle.std.specs.Prelude.{◌≡◌, [], ◌∷◌, None, true, false, refl}
 use Rattle.case_types.specs.Cells.{Tree, Leaf, Node, Misses, Plain, visits, letters_of, root_region, edge_to_halve, widest_below, misses, midpoint}
-use Rattle.case_types.specs.Sums.{list_below}
+use Rattle.log_laws.specs.Sums.{list_below}
 
 abbrev pub small_tree : Tree
 small_tree = Node 0 (Node 3 (Leaf Plain) (Leaf Plain)) (Leaf Misses)

@@ -1,11 +1,11 @@
 -- Bounds of energies over a box of compositions, in whole numbers: 2^-40 bit where nothing else is said.
-use Rattle.std.specs.Prelude.{ℕ, ◌+◌, ◌-◌, ◌*◌, ◌/◌, ◌^◌, List, [], ◌∷◌, map, ◌==◌, if◌then◌else◌, ℤ, pos, ◌+ℤ◌, ◌-ℤ◌, ◌*ℤ◌, int_le, unsigned_abs, slice_index, slice_index_or}
+use Rattle.std.specs.Prelude.{ℕ, ◌+◌, ◌-◌, ◌*◌, ◌/◌, ◌^◌, List, [], ◌∷◌, ◌==◌, cond, nat_lt, if◌then◌else◌, ℤ, pos, ◌+ℤ◌, ◌-ℤ◌, ◌*ℤ◌, int_le, unsigned_abs, slice_index, slice_index_or}
 use Rattle.std.specs.Int.{int_min, int_max}
 use Rattle.log_laws.specs.Squaring.{log_down, log_up}
 use Rattle.case_types.specs.declared.phases.Phase.{Phase}
 use Rattle.case_types.specs.declared.phases.Split.{Split}
 use Rattle.case_types.specs.Numbers.{Numbers}
-use Rattle.case_types.specs.Sums.{sum_below, int_sum_below, least_below, greatest_below}
+use Rattle.log_laws.specs.Sums.{sum_below, int_sum_below, least_below, greatest_below, list_below}
 use Rattle.log_laws.specs.Between.{Ends}
 use Rattle.log_laws.specs.Whole.{ceil_quotient, floor_div, ceil_div}
 use Rattle.case_types.specs.Tables.{ends_at, ends_of_pair}
@@ -137,11 +137,14 @@ share_down scale n d = n * scale / d
 abbrev pub share_up : ℕ → ℕ → ℕ → ℕ
 share_up scale n d = ceil_quotient (n * scale) d
 
--- the smallest box that holds the composition of these parts
+-- the smallest box that holds the composition of these parts, and 0 for components that aren't there
 abbrev pub box_of_parts : ℕ → List ℕ → Box
 box_of_parts n parts =
     let m = sum_below n (slice_index parts) in
-    record { lo = map (λ k. share_down one k m) parts; hi = map (λ k. share_up one k m) parts }
+    record {
+      lo = list_below 4 (λ i. cond (nat_lt i n) (share_down one (slice_index parts i) m) 0);
+      hi = list_below 4 (λ i. cond (nat_lt i n) (share_up one (slice_index parts i) m) 0);
+    }
 
 -- ---- planes
 -- the plane at parts of a composition, times their sum

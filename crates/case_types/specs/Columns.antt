@@ -5,7 +5,7 @@ use Rattle.case_types.specs.declared.rounds.Column.{Column}
 use Rattle.case_types.specs.Bounds.{Box, one, energy_up, plane_at}
 use Rattle.case_types.specs.Cells.{GridPoint}
 use Rattle.case_types.specs.Numbers.{Numbers}
-use Rattle.case_types.specs.Sums.{sum_below}
+use Rattle.log_laws.specs.Sums.{sum_below}
 
 -- ---- grid points: a composition in 2^-20, a packing in 2^-40
 pub record IsGridPoint (n : ℕ) (g : GridPoint) : Type 0 where

@@ -9,7 +9,7 @@ use Rattle.case_types.specs.declared.phases.Split.{Split}
 use Rattle.case_types.specs.CaseWords.{feed}
 use Rattle.case_types.specs.Instances.{Instance, Enclosures, IsInstance, AreRight}
 use Rattle.case_types.specs.Parameters.{covolume, attraction}
-use Rattle.case_types.specs.Sums.{sum_below, fraction_sum_below, log_sum_below}
+use Rattle.log_laws.specs.Sums.{sum_below, fraction_sum_below, log_sum_below}
 
 -- ---- phases
 -- whole parts of the components, and a packing
@@ -97,11 +97,15 @@ abbrev pub parts_in : List State → ℕ → ℕ
 parts_in [] i = 0
 parts_in (f ∷ fs) i = f.parts i + parts_in fs i
 
+-- the phases add up to the feed
+abbrev pub AddsUp : Case → Division → Type 0
+AddsUp c d = (i : ℕ) → i < c.n → c.total * parts_in d.phases i ≡ feed c i * d.sum
+
 -- the phases are phases, and add up to the feed
 pub record Divides (c : Case) (d : Division) : Type 0 where
   pub positive : 0 < d.sum
   pub phases : All (IsState c.n) d.phases
-  pub adds_up : (i : ℕ) → i < c.n → c.total * parts_in d.phases i ≡ feed c i * d.sum
+  pub adds_up : AddsUp c d
 
 abbrev pub division_of : Split → Division
 division_of s = record { sum = s.sum; phases = map state_of s.phases.items }

@@ -6,7 +6,7 @@ use Rattle.case_types.specs.declared.cases.ParamFault.{ParamFault}
 use Rattle.case_types.specs.declared.cases.ParamFault.TheVariants.{BRange, BRatio, MRange, ARange}
 use Rattle.case_types.specs.CaseWords.{critical_temperature, critical_pressure}
 use Rattle.case_types.specs.Numbers.{Numbers, numbers_of}
-use Rattle.case_types.specs.Sums.{all_below}
+use Rattle.log_laws.specs.Sums.{all_below}
 use Rattle.case_types.specs.Tables.{ends_at, ends_of_pair}
 
 -- the first that is there of f 0, f 1, .. below n

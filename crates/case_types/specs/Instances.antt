@@ -1,7 +1,7 @@
 -- What stands for the roots and for log2 e: printed pairs, and a choice of one fraction inside each.
 use Rattle.std.specs.Prelude.{ℕ, ◌+◌, ◌-◌, ◌*◌, ◌/◌, ◌^◌, ◌<◌, ◌≡◌, List, pos, ◌*ℤ◌, ◌≤ℤ◌, ◌<ℤ◌}
 use Rattle.log_laws.specs.Fraction.{Fraction, whole}
-use Rattle.log_laws.specs.LogSum.{AtLeast, AtMost, times_log, ratio}
+use Rattle.log_laws.specs.LogE.{HoldsLogE}
 use Rattle.case_types.specs.declared.cases.Case.{Case}
 use Rattle.case_types.specs.CaseWords.{critical_temperature, critical_pressure}
 use Rattle.log_laws.specs.Between.{Ends, IsBetween}
@@ -28,13 +28,6 @@ pub record HoldsRoot (v : Ends) (num den scale : ℕ) : Type 0 where
   pub positive_above : pos 0 <ℤ v.hi
   pub above : (v.lo *ℤ v.lo *ℤ pos den) ≤ℤ pos (num * 4 ^ scale)
   pub below : pos (num * 4 ^ scale) ≤ℤ (v.hi *ℤ v.hi *ℤ pos den)
-
--- log2 e lies between the ends, since e lies between (1 + 1/M)^M and (1 + 1/M)^(M+1)
-pub record HoldsLogE (v : Ends) : Type 0 where
-  pub positive : pos 0 <ℤ v.lo
-  pub positive_above : pos 0 <ℤ v.hi
-  pub above : AtLeast (times_log (whole (pos (2 ^ 24))) (ratio (2 ^ 24 + 1) (2 ^ 24))) (record { num = v.lo; den = 2 ^ 40 })
-  pub below : AtMost (times_log (whole (pos (2 ^ 24 + 1))) (ratio (2 ^ 24 + 1) (2 ^ 24))) (record { num = v.hi; den = 2 ^ 40 })
 
 -- the printed pairs hold what they stand for
 pub record AreRight (c : Case) (e : Enclosures) : Type 0 where

@@ -1,5 +1,4 @@
 pub mod Spared
-pub mod Sums
 pub mod Ranges
 pub mod Tables
 pub mod CaseWords

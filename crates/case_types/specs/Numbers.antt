@@ -6,7 +6,7 @@ use Rattle.case_types.specs.declared.cases.Case.{Case}
 use Rattle.case_types.specs.CaseWords.{critical_temperature, critical_pressure, acentric_factor}
 use Rattle.case_types.specs.Instances.{Enclosures, pair_place}
 use Rattle.case_types.specs.Parameters.{kappa_of, cohesion_num, cohesion_den}
-use Rattle.case_types.specs.Sums.{all_below, list_below, greatest_below}
+use Rattle.log_laws.specs.Sums.{all_below, list_below, greatest_below}
 use Rattle.log_laws.specs.Between.{Ends}
 use Rattle.log_laws.specs.Roots.{root_ends}
 use Rattle.log_laws.specs.Whole.{floor_div, ceil_div}

@@ -1,6 +1,6 @@
 -- The facts that the types keep, as tests over numbers and lists that compute.
 use Rattle.std.specs.Prelude.{ℕ, ◌^◌, List, [], Bool, ◌&&◌, ◌||◌, ◌==◌, nat_le, nat_lt, ℤ, pos, neg_ℤ, int_le, slice_index, slice_index_or, unsigned_abs}
-use Rattle.case_types.specs.Sums.{all_below, sum_below}
+use Rattle.log_laws.specs.Sums.{all_below, sum_below}
 
 -- ---- tests of lists
 -- each entry of xs below n is at most that of ys

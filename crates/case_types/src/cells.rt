@@ -2,7 +2,7 @@
 
 ghost use Rattle.std.specs.Prelude.{ℕ, ◌≤◌, ◌<◌, ◌^◌, IsTrue, slice_index};
 ghost use Rattle.case_types.specs.Ranges.{is_each_at_most, is_each_up_to};
-ghost use Rattle.case_types.specs.Sums.{sum_below};
+ghost use Rattle.log_laws.specs.Sums.{sum_below};
 
 use crate::cases::SLOTS;
 

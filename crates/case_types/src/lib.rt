@@ -5,9 +5,11 @@
 //! energy are, what it means that an answer is certified, and the whole numbers that bounds of energies are made of.
 #![tactic(auto)]
 
+mod adding;
 mod answers;
 mod cases;
 mod cells;
+mod laws;
 mod lists;
 mod phases;
 mod pivots;
@@ -15,9 +17,11 @@ mod planes;
 mod rounds;
 mod units;
 
+pub use adding::adds_up;
 pub use answers::{Answer, FlashFault, Outcome, Work};
 pub use cases::{Case, Name, PAIRS, ParamFault, Row, SLOTS};
 pub use cells::{BoxX, Cell};
+pub use laws::{trees_cover, weak_duality};
 pub use lists::{Columns, Letters, Memory, Pivots, Reserved, Rounds};
 pub use phases::{Phase, Split};
 pub use pivots::Pivot;

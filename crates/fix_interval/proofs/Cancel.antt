@@ -2,7 +2,7 @@
 use Rattle.std.proofs.Common.{◌≡◌, ℕ, ◌*◌, ◌<◌, ℤ, pos, ◌+ℤ◌, ◌*ℤ◌, ◌≤ℤ◌, arith, sym, ap, ◌∙◌}
 use Rattle.std.proofs.lemmas.Int.{ints, by_lt_z}
 use Rattle.log_laws.specs.Whole.{floor_over, ceil_over}
-use Rattle.log_laws.proofs.Ring.{mul-le_ℤ, add-mul_ℤ, floor_over-le, le-ceil_over, ≤ℤ_trans, scale_scale, scale_turned, swap_scales}
+use Rattle.log_laws.proofs.Exports.{mul-le_ℤ, add-mul_ℤ, floor_over-le, le-ceil_over, ≤ℤ_trans, scale_scale, scale_turned, swap_scales}
 
 pub le-of_mul-le_ℤ : (a b : ℤ) (k : ℕ) → 0 < k → (a *ℤ pos k) ≤ℤ (b *ℤ pos k) → a ≤ℤ b
 le-of_mul-le_ℤ a b k h e =

@@ -4,7 +4,7 @@ use Rattle.std.specs.Int.{int_min, int_max}
 use Rattle.std.proofs.lemmas.Int.{ints, clamps}
 use Rattle.std.proofs.Math.Nat.{mul-le-mul_left, mul-le-mul_right, mul_assoc, div-mul-le_self, lt-div-mul-add, le_trans}
 use Rattle.log_laws.specs.Whole.{floor_over, ceil_over}
-use Rattle.log_laws.proofs.Ring.{mul-le_ℤ, neg-mul, ≤ℤ_trans, scale_scale, scale_turned}
+use Rattle.log_laws.proofs.Exports.{mul-le_ℤ, neg-mul, ≤ℤ_trans, scale_scale, scale_turned}
 
 -- X over a number between b and c is at least the lesser of the floors at b and c
 pub quotient_low : (X : ℤ) (b c r s : ℕ) → 0 < b → b * s ≤ r → r ≤ c * s →

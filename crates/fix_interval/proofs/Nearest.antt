@@ -5,7 +5,7 @@ use Rattle.std.proofs.lemmas.Int.{ints, clamps}
 use Rattle.std.proofs.lemmas.Bool.{cases_lt}
 use Rattle.std.proofs.Math.Nat.{mul-le-mul, mul-le-mul_left, mul-le-mul_right, zero-div}
 use Rattle.log_laws.specs.Whole.{floor_over}
-use Rattle.log_laws.proofs.Ring.{mul-le_ℤ, floor_over-le, ≤ℤ_trans, scale_scale}
+use Rattle.log_laws.proofs.Exports.{mul-le_ℤ, floor_over-le, ≤ℤ_trans, scale_scale}
 use Rattle.fix_interval.specs.Extremes.{nearest_to_zero}
 
 -- the nearest of the ends to 0, scaled, is no farther from 0 than a number between them

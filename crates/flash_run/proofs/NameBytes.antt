@@ -4,7 +4,7 @@ use Rattle.std.specs.Prelude.{◌==◌, IsTrue, slice_index}
 use Rattle.std.proofs.lemmas.List.{get_or-set_same, get_or-set_other, take_more, take_more_set}
 use Rattle.std.proofs.lemmas.Bool.{cases_lt, le-leb, lt-ltb}
 use Rattle.case_types.specs.Ranges.{is_name, is_name_byte}
-use Rattle.case_types.specs.Sums.{all_below}
+use Rattle.log_laws.specs.Sums.{all_below}
 
 -- each byte so far is as Q says, also after one more
 pub each-more : (Q : ℕ → Type 0) (bytes : List ℕ) (i v : ℕ) → i < length bytes → Q v

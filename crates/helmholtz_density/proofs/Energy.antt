@@ -5,7 +5,7 @@ use Rattle.log_laws.specs.Squaring.{log_up, log_down}
 use Rattle.log_laws.specs.Whole.{floor_div, ceil_div}
 use Rattle.case_types.specs.Bounds.{Box, one, mixing_up, covolume_scale, covolume_range, ratio_low, lambda_down, energy_up}
 use Rattle.case_types.specs.Numbers.{Numbers}
-use Rattle.case_types.specs.Sums.{int_sum_below}
+use Rattle.log_laws.specs.Sums.{int_sum_below}
 
 -- a sum of one term
 first_only : (z : ℤ) → pos 0 +ℤ z ≡ z

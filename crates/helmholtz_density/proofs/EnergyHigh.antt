@@ -9,19 +9,15 @@ use Rattle.log_laws.specs.Fraction.{Fraction, IsFraction, IsAtMost, whole, negat
 use Rattle.log_laws.specs.LogSum.{AtLeast, AtMost, ratio, IsPositive, added, constant}
 use Rattle.log_laws.specs.Squaring.{log_up, log_down}
 use Rattle.log_laws.specs.Whole.{floor_div, ceil_div, ceil_quotient}
-use Rattle.log_laws.proofs.Opposite.{at_most_is_opposite}
-use Rattle.log_laws.proofs.Parts.{IsParts, parts_one, parts_ratio, parts_sum, parts_negated, parts_respelled, product_pos}
-use Rattle.log_laws.proofs.Ring.{floor_over-le, ceil_over-pos}
-use Rattle.log_laws.proofs.Terms.{one, by_ratio, order_of_ratios}
-use Rattle.log_laws.proofs.Uppers.{at_most_adds_at, constant_at_most, log_larger}
-use Rattle.log_enclose.proofs.Bounds.{log_up_at_most, log_down_at_least}
+use Rattle.log_laws.proofs.Exports.{at_most_is_opposite, IsParts, parts_one, parts_ratio, parts_sum, parts_negated, parts_respelled, product_pos, floor_over-le, ceil_over-pos, one, by_ratio, order_of_ratios, at_most_adds_at, constant_at_most, at_least_takes_larger, at_most_raises}
+use Rattle.log_enclose.proofs.Exports.{log_up_at_most, log_down_at_least}
 use Rattle.case_types.specs.declared.cases.Case.{Case}
 use Rattle.case_types.specs.Bounds.{Box, mixing_up, covolume_scale, covolume_range, ratio_low, lambda_down, energy_up}
 use Rattle.case_types.specs.Divisions.{State, moles, bits, mean_covolume, mean_attraction, mixing, volume_part, minus_log_of, log_of, attraction_part, attraction_argument, energy_of}
 use Rattle.case_types.specs.Holding.{HoldsParameters, HoldsMeans, IsInBox}
 use Rattle.case_types.specs.Instances.{Instance}
 use Rattle.case_types.specs.Numbers.{Numbers}
-use Rattle.case_types.specs.Sums.{int_sum_below}
+use Rattle.log_laws.specs.Sums.{int_sum_below}
 use Rattle.pr_params.specs.Packings.{IsPacking}
 use Rattle.pr_params.proofs.Argument.{positive_between}
 use Rattle.pr_params.proofs.Lambda.{two_ends, respelled, lambda_least, log_not_negative, argument_positive}
@@ -48,8 +44,11 @@ quotient_above n d h = omega arith
 share_at : (cn cd bn bd Y Q : ℕ) → 0 < cd → 0 < bd → 0 < Y → cn * bn * 2 ^ 40 * 2 ^ 40 ≤ Q * (cd * bd * Y) →
     AtMost (constant (ratio (cn * bn * 2 ^ 40) (cd * bd * Y))) (bits (pos Q))
 share_at cn cd bn bd Y Q pcd pbd pY l =
-    constant_at_most (ratio (cn * bn * 2 ^ 40) (cd * bd * Y)) (bits (pos Q)) (product_pos (cd * bd) Y (product_pos cd bd pcd pbd) pY) (lit< tt)
-    (at_most_in (pos (cn * bn * 2 ^ 40 * 2 ^ 40)) (pos (Q * (cd * bd * Y))) (omega (arith, l)))
+    at_most_raises (constant share) share (bits (pos Q)) (lit< tt) (at_most_in (pos (cn * bn * 2 ^ 40 * 2 ^ 40)) (pos (Q * (cd * bd * Y))) (omega (arith, l)))
+    (constant_at_most share (product_pos (cd * bd) Y (product_pos cd bd pcd pbd) pY))
+  where
+    share : Fraction
+    share = ratio (cn * bn * 2 ^ 40) (cd * bd * Y)
 
 volume_most : (p : Numbers) (c b : Fraction) (Y : ℕ) (v : Ends) → p.log_e ≡ e_ends → 1 ≤ Y → Y < 2 ^ 40 → pos 0 ≤ℤ v.hi → IsPositive b →
     IsBetween p.log_e (2 ^ 40) c → IsBetween v (2 ^ (56 + p.lift)) b →
@@ -92,13 +91,11 @@ covolume_most b s v pb low high hold =
     by_natural (λ z. pos (2 ^ 60) ≤ℤ z → z ≤ℤ pos (2 ^ 61) → IsBetween (record { lo = z; hi = v.hi }) (2 ^ s) b → AtMost (minus_log_of b) (bits (neg_ℤ (log_down (unsigned_abs z) s))))
     v.lo (omega (arith, ints, low))
     (λ l low high hold.
-    minus_most b (log_down l s)
-    (by_ratio (λ b. IsBetween (record { lo = pos l; hi = v.hi }) (2 ^ s) b → AtLeast (log_of b) (bits (log_down l s))) b pb
-    (λ bn bd pbn pbd hold.
     let ql = le_out (pos (2 ^ 60)) (pos l) low in
     let qh = le_out (pos l) (pos (2 ^ 61)) high in
-    log_larger l (2 ^ s) bn bd (bits (log_down l s)) pbn pbd (order_of_ratios l (2 ^ s) bn bd (pow_pos s) pbd hold.above)
-    (log_down_at_least l s (omega (arith, ql)) (omega (arith, qh)))) hold))
+    minus_most b (log_down l s)
+    (at_least_takes_larger one (ratio l (2 ^ s)) b (constant (whole (pos 0))) (bits (log_down l s)) (at_most_in (pos 0) (pos 1) (omega arith)) pb hold.above
+    (log_down_at_least l s (omega (arith, ql)) (omega (arith, qh)))))
     low high (between_apart v (2 ^ s) b hold)
 
 -- what a packing of Y units leaves of 1

@@ -2,4 +2,4 @@ pub mod Mixes
 pub mod Energy
 pub mod MixingHigh
 pub mod EnergyHigh
-pub mod Held
+pub mod Shares

@@ -2,7 +2,7 @@
 use Rattle.std.proofs.Common.{◌≡◌, ◌≢◌, ℕ, false, ◌==◌, ◌*◌, ◌<◌, ◌^◌, ℤ, pos, ◌*ℤ◌, refl, sym, arith}
 use Rattle.log_laws.specs.Squaring.{log_up}
 use Rattle.log_laws.specs.Whole.{floor_div, ceil_div, ceil_quotient}
-use Rattle.log_laws.proofs.Ring.{ceil_over-pos}
+use Rattle.log_laws.proofs.Exports.{ceil_over-pos}
 use Rattle.case_types.specs.Bounds.{mixing_up}
 
 -- no fraction adds nothing

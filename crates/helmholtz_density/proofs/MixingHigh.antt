@@ -9,17 +9,13 @@ use Rattle.log_laws.specs.Fraction.{IsFraction, whole, negated, product_of}
 use Rattle.log_laws.specs.LogSum.{LogSum, AtLeast, AtMost, times_log, ratio, scaled, constant}
 use Rattle.log_laws.specs.Squaring.{up as digits_up, log_up}
 use Rattle.log_laws.specs.Whole.{ceil_div}
-use Rattle.log_laws.proofs.Opposite.{at_most_is_opposite}
-use Rattle.log_laws.proofs.Parts.{parts_self, parts_ratio, parts_product, product_pos}
-use Rattle.log_laws.proofs.Ring.{le-ceil_over}
-use Rattle.log_laws.proofs.Sums.{at_least_scales}
-use Rattle.log_laws.proofs.Terms.{one, lowered, minus_log}
-use Rattle.log_laws.proofs.Uppers.{at_most_adds_at, constant_at_most}
-use Rattle.log_enclose.proofs.Bounds.{log_up_at_most, log_up_power_high}
+use Rattle.log_laws.proofs.Exports.{at_most_is_opposite, parts_self, parts_ratio, parts_product, product_pos, le-ceil_over, at_least_scales, one, lowered, minus_log, at_most_adds_at, at_most_raises, constant_at_most}
+use Rattle.log_enclose.proofs.Exports.{log_up_at_most}
+use Rattle.log_enclose.proofs.Bounds.{log_up_power_high}
 use Rattle.case_types.specs.Bounds.{Box, mixing_up}
 use Rattle.case_types.specs.Divisions.{State, moles, bits, mixing_of, mixing, minus_log_of}
 use Rattle.case_types.specs.Holding.{IsInBox}
-use Rattle.case_types.specs.Sums.{int_sum_below, log_sum_below}
+use Rattle.log_laws.specs.Sums.{int_sum_below, log_sum_below}
 use Rattle.pr_params.proofs.Pull.{times_scaled, times_minus_one}
 use Rattle.helmholtz_density.proofs.Mixes.{mixing_none, mixing_some}
 
@@ -76,7 +72,8 @@ entropy_most xn xd a b u pxn pxd lo hi some small ceiling =
 
 -- nothing is at most nothing
 nothing_most : AtMost (constant (whole (pos 0))) (bits (pos 0))
-nothing_most = constant_at_most (whole (pos 0)) (bits (pos 0)) (lit< tt) (lit< tt) (at_most_in (pos 0) (pos 0) (omega arith))
+nothing_most =
+    at_most_raises (constant (whole (pos 0))) (whole (pos 0)) (bits (pos 0)) (lit< tt) (at_most_in (pos 0) (pos 0) (omega arith)) (constant_at_most (whole (pos 0)) (lit< tt))
 
 none_up : (b : ℕ) → mixing_up 0 b ≡ pos 0
 none_up zero = mixing_none 0 0 refl

@@ -10,8 +10,8 @@ use Rattle.log_laws.specs.LogSum.{AtLeast, AtMost, times_log, ratio}
 use Rattle.log_laws.specs.Squaring.{down, up, digit, square_down, square_up, next_down, next_up, exponent, log_down, log_up, IsSmall}
 use Rattle.log_enclose.proofs.Squares.{down_le}
 use Rattle.log_enclose.proofs.SquaresUp.{up_le}
-use Rattle.log_laws.proofs.Powers.{pow_pos_of}
-use Rattle.log_laws.proofs.Opposite.{at_least_powers_over, at_most_powers_over}
+use Rattle.log_laws.proofs.Exports.{pow_pos_of}
+use Rattle.log_laws.proofs.Exports.{at_least_powers_over, at_most_powers_over}
 use Rattle.log_enclose.proofs.Width.{below_of_pow}
 use Rattle.log_enclose.proofs.Logs.{exponent_is, normal_of, lo_at_least, hi_at_most, log_down_is, log_up_is}
 

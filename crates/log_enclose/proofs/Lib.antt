@@ -4,3 +4,5 @@ pub mod Width
 pub mod Logs
 pub mod Constants
 pub mod Bounds
+pub mod Exports
+pub mod Raised

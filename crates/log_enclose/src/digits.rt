@@ -37,7 +37,8 @@ pub fn log2_up(m: u128, bits: u32) -> u128
     ensures value { result ≡ up m bits }
     ensures small { result ≤ 2 ^ bits }
     ensures above { AtMost (times_log (whole (pos (2 ^ bits))) (ratio m (2 ^ 61))) (whole (pos result)) }
-    ensures near { up m bits ≤ down m bits + 2 }
+    ensures above_lower { down m bits ≤ result }
+    ensures near { result ≤ down m bits + 2 }
 {
     let mut at = m as u64;
     let mut digits: u64 = 0;

@@ -2,7 +2,8 @@
 
 ghost use Rattle.std.specs.Prelude.{◌≡◌, ◌^◌, ◌≤◌, ◌<◌, ℕ, pos, ◌-ℤ◌, ◌*ℤ◌, ◌≤ℤ◌, unsigned_abs, ◌+◌};
 ghost use Rattle.fix_interval.specs.Interval.{ends_of};
-ghost use Rattle.log_laws.specs.LogE.{log_e_ends};
+ghost use Rattle.log_laws.specs.LogE.{log_e_ends, HoldsLogE};
+ghost use Rattle.log_laws.specs.Logarithms.{LogOfMore, LogOfLess};
 ghost use Rattle.log_laws.specs.Fraction.{Fraction, whole};
 ghost use Rattle.log_laws.specs.LogSum.{AtLeast, AtMost, times_log, ratio};
 ghost use Rattle.log_laws.specs.Squaring.{log_down, log_up, IsSmall};
@@ -61,13 +62,15 @@ pub fn log2_iv(a: Iv, scale: u32) -> Iv
 
 /// The ends of the logarithm of e, in `2^-40`.
 ///
-/// With M = 2^24, e lies between (1 + 1/M)^M and (1 + 1/M)^(M+1).
+/// With M = 2^24, e lies between (1 + 1/M)^M and (1 + 1/M)^(M+1). The logarithm of `1 + d` is at most d times the upper end
+/// for d of at least 0, and at most d times the lower end for d above -1 and at most 0.
 pub fn log2e() -> Iv
     ensures ends { ends_of result ≡ log_e_ends }
     ensures lo { result.lo ≡ pos 1586259924992 }
     ensures hi { result.hi ≡ pos 1586260020565 }
-    ensures at_least { AtLeast (times_log (whole (pos (2 ^ 24))) (ratio (2 ^ 24 + 1) (2 ^ 24))) (record { num = result.lo; den = 2 ^ 40 }) }
-    ensures at_most { AtMost (times_log (whole (pos (2 ^ 24 + 1))) (ratio (2 ^ 24 + 1) (2 ^ 24))) (record { num = result.hi; den = 2 ^ 40 }) }
+    ensures right { HoldsLogE (ends_of result) }
+    ensures more { LogOfMore (ends_of result) }
+    ensures less { LogOfLess (ends_of result) }
 {
     Iv {
         lo: 1_586_259_924_992,

@@ -28,4 +28,17 @@ fn logarithms(rt: HostRuntime) {
         hi: 1586260020565,
     };
     assert_eq!(rt; log2e(), of_e);
+    // A power in 2^-40, and what it is between, in 2^-32.
+    let powers: [(i128, u128, u128); 5] = [
+        (0, 1 << 32, 1 << 32),
+        (1 << 39, 6_074_000_000, 6_074_002_000),
+        (-(1 << 40), 1 << 31, 1 << 31),
+        (21 << 40, 1 << 52, 1 << 52),
+        (-(33 << 40), 1, 1),
+    ];
+    for (power, least, greatest) in powers {
+        let near = exp2_near(power);
+        assert!(rt; least <= near);
+        assert!(rt; near <= greatest);
+    }
 }

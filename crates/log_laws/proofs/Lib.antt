@@ -14,5 +14,11 @@ pub mod Euler
 pub mod Tangent
 pub mod Parts
 pub mod Terms
+pub mod Indexed
+pub mod Arguments
+pub mod LogsOfE
+pub mod Quotients
+pub mod Lowest
 pub mod Uppers
+pub mod Exports
 mod ByNumbers

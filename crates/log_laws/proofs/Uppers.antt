@@ -1,60 +1,81 @@
--- Upper bounds: sums, constants, and one logarithm under another.
-use Rattle.std.proofs.Common.{ℕ, ◌+◌, ◌*◌, ◌≤◌, ◌<◌, ◌≡◌, refl, ap, sym, subst, List, [], ◌∷◌, ◌++◌, arith, lit<, ℤ, pos, neg_ℤ, ◌+ℤ◌}
+-- Upper bounds of log sums, by lower bounds of the opposites.
+use Rattle.std.proofs.Common.{ℕ, ◌+◌, ◌*◌, ◌<◌, ◌≤◌, ◌≡◌, refl, sym, ap, ap₂, subst, List, [], ◌∷◌, ◌++◌, arith}
+use Rattle.std.proofs.Math.IntN.{*ℤ_comm}
 use Rattle.std.proofs.lemmas.Int.{ints}
-use borrow.Author.Differences.{up, down}
-use Rattle.log_laws.specs.Fraction.{Fraction, IsFraction, IsAtMost, sum_of, negated, difference, whole}
-use Rattle.log_laws.specs.LogSum.{Term, LogSum, IsAtLeastOne, AtLeast, AtMost, two_to, opposite, opposite_terms, added, constant, times_log, ratio}
+use Rattle.std.specs.Prelude.{◌≤ℤ◌}
+use lib.IntN.{ℤ, pos, neg_ℤ, ◌+ℤ◌, ◌*ℤ◌}
+use Rattle.log_laws.specs.Fraction.{Fraction, IsFraction, IsAtMost, negated, sum_of, product_of}
+use Rattle.log_laws.specs.LogSum.{Term, LogSum, AtLeast, AtMost, added, scaled, scaled_terms, opposite, opposite_terms, constant}
+use Rattle.log_laws.proofs.Ring.{neg-mul}
+use Rattle.log_laws.proofs.Parts.{IsParts, parts_negated}
+use Rattle.log_laws.proofs.Sums.{at_least_adds, at_least_scales, at_least_lowers, negated-sum_of}
 use Rattle.log_laws.proofs.Opposite.{at_most_is_opposite}
-use Rattle.log_laws.proofs.Order.{at_least_one-reordered}
-use Rattle.log_laws.proofs.Order.IsReordered.{swap}
-use Rattle.log_laws.proofs.Parts.{parts_self, parts_negated, parts_of_at_most}
-use Rattle.log_laws.proofs.Steps.{at_least_one-larger, term}
-use Rattle.log_laws.proofs.Sums.{at_least_adds, negated-sum_of}
-use Rattle.log_laws.proofs.Terms.{one, over_den, lowered, at_least_adds_at, constant_at_least}
+use Rattle.log_laws.proofs.Terms.{over_den, lowered, at_least_adds_at, constant_at_least, IsSameSum, at_least-same}
 
--- ---- sums
-opposite_terms-append : (ts us : List Term) → opposite_terms (ts ++ us) ≡ opposite_terms ts ++ opposite_terms us
-opposite_terms-append [] us = refl
-opposite_terms-append (t ∷ ts) us = ap (λ xs. record { factor = negated t.factor; argument = t.argument } ∷ xs) (opposite_terms-append ts us)
+-- the opposite of the opposites
+opposite-append : (ts us : List Term) → opposite_terms (ts ++ us) ≡ opposite_terms ts ++ opposite_terms us
+opposite-append [] us = refl
+opposite-append (t ∷ ts) us = ap (λ (vs : List Term). record { factor = negated t.factor; argument = t.argument } ∷ vs) (opposite-append ts us)
 
--- the opposite of a sum is the sum of the opposites
-pub opposite-added : (s t : LogSum) → added (opposite s) (opposite t) ≡ opposite (added s t)
-opposite-added s t = rw (opposite_terms-append s.terms t.terms, negated-sum_of s.rest t.rest) refl
+opposite-added : (s t : LogSum) → added (opposite s) (opposite t) ≡ opposite (added s t)
+opposite-added s t =
+    ap₂ (λ (ts : List Term) (r : Fraction). let l : LogSum = record { terms = ts; rest = r } in l)
+    (sym (opposite-append s.terms t.terms)) (negated-sum_of s.rest t.rest)
 
+product-negated : (c f : Fraction) → product_of c (negated f) ≡ negated (product_of c f)
+product-negated c f =
+    ap (λ (z : ℤ). let r : Fraction = record { num = z; den = c.den * f.den } in r) (mul-neg c.num f.num)
+  where
+    mul-neg : (a b : ℤ) → a *ℤ neg_ℤ b ≡ neg_ℤ (a *ℤ b)
+    mul-neg a b = rw (*ℤ_comm a (neg_ℤ b), *ℤ_comm a b) (neg-mul b a)
+
+scaled-opposite_terms : (c : Fraction) (ts : List Term) → scaled_terms c (opposite_terms ts) ≡ opposite_terms (scaled_terms c ts)
+scaled-opposite_terms c [] = refl
+scaled-opposite_terms c (t ∷ ts) =
+    ap₂ (λ (f : Fraction) (us : List Term). record { factor = f; argument = t.argument } ∷ us) (product-negated c t.factor) (scaled-opposite_terms c ts)
+
+scaled-opposite : (c : Fraction) (s : LogSum) → scaled c (opposite s) ≡ opposite (scaled c s)
+scaled-opposite c s =
+    ap₂ (λ (ts : List Term) (r : Fraction). let l : LogSum = record { terms = ts; rest = r } in l)
+    (scaled-opposite_terms c s.terms) (product-negated c s.rest)
+
+-- ---- upper bounds add, scale and may be raised
 pub at_most_adds : (s t : LogSum) (q r : Fraction) → AtMost s q → AtMost t r → AtMost (added s t) (sum_of q r)
 at_most_adds s t q r x y =
     (at_most_is_opposite (added s t) (sum_of q r)).1
-    (subst (λ (l : LogSum). AtLeast l (negated (sum_of q r))) (opposite-added s t)
-    (subst (λ (f : Fraction). AtLeast (added (opposite s) (opposite t)) f) (negated-sum_of q r)
-    (at_least_adds (opposite s) (opposite t) (negated q) (negated r) ((at_most_is_opposite s q).0 x) ((at_most_is_opposite t r).0 y))))
+    (rw (← opposite-added s t, ← negated-sum_of q r)
+    (at_least_adds (opposite s) (opposite t) (negated q) (negated r) ((at_most_is_opposite s q).0 x) ((at_most_is_opposite t r).0 y)))
 
--- over one denominator
+pub at_most_scales : (c : Fraction) (s : LogSum) (r : Fraction) → IsFraction c → pos 0 ≤ℤ c.num → AtMost s r → AtMost (scaled c s) (product_of c r)
+at_most_scales c s r h k x =
+    (at_most_is_opposite (scaled c s) (product_of c r)).1
+    (rw (← scaled-opposite c s, ← product-negated c r) (at_least_scales c (opposite s) (negated r) h k ((at_most_is_opposite s r).0 x)))
+
+pub at_most_raises : (s : LogSum) (q r : Fraction) → IsFraction r → IsAtMost q r → AtMost s q → AtMost s r
+at_most_raises s q r h l x =
+    (at_most_is_opposite s r).1
+    (at_least_lowers (opposite s) (negated q) (negated r) h (turned q.num r.num q.den r.den l) ((at_most_is_opposite s q).0 x))
+  where
+    turned : (a b : ℤ) (d e : ℕ) → (a *ℤ pos e) ≤ℤ (b *ℤ pos d) → (neg_ℤ b *ℤ pos d) ≤ℤ (neg_ℤ a *ℤ pos e)
+    turned a b d e l = rw (neg-mul b (pos d), neg-mul a (pos e)) (omega (arith, ints))
+
+pub heightened : (s : LogSum) (q r : Fraction) {u v d u' v' d' : ℕ} → IsParts q u v d → IsParts r u' v' d' → u * d' + v' * d ≤ u' * d + v * d' → AtMost s q → AtMost s r
+heightened s q r {u} {v} {d} {u'} {v'} {d'} p p' l x =
+    (at_most_is_opposite s r).1
+    (lowered (opposite s) (negated q) (negated r) (parts_negated p) (parts_negated p') (turned u v d u' v' d' l) ((at_most_is_opposite s q).0 x))
+  where
+    turned : (u v d u' v' d' : ℕ) → u * d' + v' * d ≤ u' * d + v * d' → v' * d + u * d' ≤ v * d' + u' * d
+    turned u v d u' v' d' l = omega arith
+
 pub at_most_adds_at : (s t : LogSum) (q r : ℤ) (d : ℕ) → 0 < d → AtMost s (over_den q d) → AtMost t (over_den r d) → AtMost (added s t) (over_den (q +ℤ r) d)
 at_most_adds_at s t q r d h x y =
     (at_most_is_opposite (added s t) (over_den (q +ℤ r) d)).1
-    (subst (λ (l : LogSum). AtLeast l (over_den (neg_ℤ (q +ℤ r)) d)) (opposite-added s t)
-    (subst (λ (z : ℤ). AtLeast (added (opposite s) (opposite t)) (over_den z d)) (negated_sum q r)
-    (at_least_adds_at (opposite s) (opposite t) (neg_ℤ q) (neg_ℤ r) d h ((at_most_is_opposite s (over_den q d)).0 x) ((at_most_is_opposite t (over_den r d)).0 y))))
+    (rw (← opposite-added s t, turned q r)
+    (at_least_adds_at (opposite s) (opposite t) (neg_ℤ q) (neg_ℤ r) d h ((at_most_is_opposite s (over_den q d)).0 x) ((at_most_is_opposite t (over_den r d)).0 y)))
   where
-    negated_sum : (a b : ℤ) → neg_ℤ a +ℤ neg_ℤ b ≡ neg_ℤ (a +ℤ b)
-    negated_sum a b = omega (arith, ints)
+    turned : (q r : ℤ) → neg_ℤ (q +ℤ r) ≡ neg_ℤ q +ℤ neg_ℤ r
+    turned q r = omega (arith, ints)
 
--- ---- constants
-pub constant_at_most : (f r : Fraction) → IsFraction f → IsFraction r → IsAtMost f r → AtMost (constant f) r
-constant_at_most f r hf hr l =
-    let pf = parts_self f.num f.den hf in
-    let pr = parts_self r.num r.den hr in
-    (at_most_is_opposite (constant f) r).1
-    (lowered (constant (negated f)) (negated f) (negated r) (parts_negated pf) (parts_negated pr) (sides (up f.num) (down f.num) f.den (up r.num) (down r.num) r.den (parts_of_at_most pf pr l))
-    (constant_at_least (negated f) hf))
-  where
-    sides : (u v d u' v' d' : ℕ) → u * d' + v' * d ≤ u' * d + v * d' → v' * d + u * d' ≤ v * d' + u' * d
-    sides u v d u' v' d' h = omega arith
-
--- ---- a larger argument
-pub log_larger : (an ad bn bd : ℕ) (r : Fraction) → 0 < bn → 0 < bd → an * bd ≤ bn * ad → AtLeast (times_log one (ratio an ad)) r → AtLeast (times_log one (ratio bn bd)) r
-log_larger an ad bn bd r pbn pbd l x =
-    let two = two_to (difference (whole (pos 0)) r) in
-    let z1 : IsAtLeastOne (term one (ratio an ad) ∷ two ∷ []) = at_least_one-reordered swap x.product in
-    let z2 = at_least_one-larger one (ratio an ad) (ratio bn bd) (two ∷ []) refl (pbd, pbn) l z1 in
-    record { product = at_least_one-reordered swap z2 }
+-- a constant is at most itself
+pub constant_at_most : (f : Fraction) → IsFraction f → AtMost (constant f) f
+constant_at_most f h = (at_most_is_opposite (constant f) f).1 (constant_at_least (negated f) h)

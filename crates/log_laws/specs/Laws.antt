@@ -1,8 +1,8 @@
--- The laws of log sums, which the functions of this crate ensure.
-use Rattle.std.specs.Prelude.{ℕ, ◌*◌, ◌^◌, ◌<◌, ◌≤◌, ◌↔◌, ℤ, pos, ◌≤ℤ◌, List, [], ◌∷◌}
-use Rattle.log_laws.specs.Whole.{positive_part, negative_part}
+-- The laws of bounds of log sums, which the functions of this crate ensure.
+use Rattle.std.specs.Prelude.{ℕ, ◌≤◌, ◌<◌, ◌↔◌, ℤ, pos, ◌≤ℤ◌, List, [], ◌∷◌}
 use Rattle.log_laws.specs.Fraction.{Fraction, IsFraction, IsAtMost, negated, sum_of, product_of, whole}
-use Rattle.log_laws.specs.LogSum.{LogSum, AtLeast, AtMost, IsCommon, terms_above, over, under, added, scaled, opposite, times_log, constant}
+use Rattle.log_laws.specs.LogSum.{LogSum, AtLeast, AtMost, IsCommon, terms_above, over, under, added, scaled, opposite, constant}
+use Rattle.log_laws.specs.Sums.{int_sum_below, log_sum_below}
 
 -- any common denominator gives the answer of the least
 abbrev pub AnyDenominator : Type 0
@@ -23,31 +23,6 @@ AtMostIsOpposite = (s : LogSum) (r : Fraction) → AtMost s r ↔ AtLeast (oppos
 -- a lower bound may be lowered
 abbrev pub AtLeastLowers : Type 0
 AtLeastLowers = (s : LogSum) (q r : Fraction) → IsFraction r → IsAtMost r q → AtLeast s q → AtLeast s r
-
--- n times the logarithm of u / v is at least k exactly where 2 ^ k * v ^ n is at most u ^ n
-abbrev pub AtLeastPowers : Type 0
-AtLeastPowers =
-    (n u v k : ℕ) → 0 < u → 0 < v →
-    AtLeast (times_log (whole (pos n)) (record { num = pos u; den = v })) (whole (pos k)) ↔ (2 ^ k * v ^ n ≤ u ^ n)
-
-abbrev pub AtMostPowers : Type 0
-AtMostPowers =
-    (n u v k : ℕ) → 0 < u → 0 < v →
-    AtMost (times_log (whole (pos n)) (record { num = pos u; den = v })) (whole (pos k)) ↔ (u ^ n ≤ 2 ^ k * v ^ n)
-
--- n times the logarithm of u / v is at least z / d exactly where 2 ^ z * v ^ (n * d) is at most u ^ (n * d); where z is negative,
--- its power stands on the other side
-abbrev pub AtLeastPowersOver : Type 0
-AtLeastPowersOver =
-    (n u v d : ℕ) (z : ℤ) → 0 < u → 0 < v → 0 < d →
-    AtLeast (times_log (whole (pos n)) (record { num = pos u; den = v })) (record { num = z; den = d })
-    ↔ (2 ^ positive_part z * v ^ (n * d) ≤ 2 ^ negative_part z * u ^ (n * d))
-
-abbrev pub AtMostPowersOver : Type 0
-AtMostPowersOver =
-    (n u v d : ℕ) (z : ℤ) → 0 < u → 0 < v → 0 < d →
-    AtMost (times_log (whole (pos n)) (record { num = pos u; den = v })) (record { num = z; den = d })
-    ↔ (2 ^ negative_part z * u ^ (n * d) ≤ 2 ^ positive_part z * v ^ (n * d))
 
 -- a part of a weighted sum: its log sum is at least its bound
 pub record Part : Type 0 where
@@ -73,3 +48,9 @@ AreParts (p ∷ ps) = IsPart p × AreParts ps
 -- a weighted sum of log sums is at least the weighted sum of their bounds
 abbrev pub AtLeastWeighs : Type 0
 AtLeastWeighs = (ps : List Part) → AreParts ps → AtLeast (weighted_sum ps) (weighted_bound ps)
+
+-- a sum over an index is at least the sum of the bounds
+abbrev pub AtLeastSums : Type 0
+AtLeastSums =
+    (n : ℕ) (f : ℕ → LogSum) (z : ℕ → ℤ) (d : ℕ) → 0 < d → ((i : ℕ) → i < n → AtLeast (f i) (record { num = z i; den = d })) →
+    AtLeast (log_sum_below n f) (record { num = int_sum_below n z; den = d })

@@ -3,6 +3,9 @@ pub mod Fraction
 pub mod Between
 pub mod Roots
 pub mod LogSum
+pub mod Sums
 pub mod Laws
+pub mod Logarithms
 pub mod Squaring
 pub mod LogE
+pub mod Reduced

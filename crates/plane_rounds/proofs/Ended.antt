@@ -2,7 +2,7 @@
 use Rattle.std.proofs.Common.{◌≡◌, ℕ, List, ◌^◌, ◌<◌, ◌≤◌, ℤ, neg_ℤ, unsigned_abs, ap, ◌∙◌, arith, lit<}
 use Rattle.std.proofs.lemmas.Int.{ints}
 use Rattle.log_laws.specs.Whole.{floor_over}
-use Rattle.log_laws.proofs.Ring.{floor_over-le, lt-floor_over}
+use Rattle.log_laws.proofs.Exports.{floor_over-le, lt-floor_over}
 use Rattle.pr_params.proofs.Alpha.{abs_within}
 use Rattle.case_types.specs.declared.cases.Case.{Case}
 use Rattle.case_types.specs.declared.answers.Answer.{Answer}

@@ -3,7 +3,7 @@ use Rattle.std.proofs.Common.{◌≡◌, ℕ, zero, suc, ◌+◌, ◌*◌, ◌^�
 use Rattle.std.specs.Int.{int_max}
 use Rattle.std.proofs.lemmas.Int.{ints, clamps}
 use Rattle.log_laws.specs.Whole.{floor_over, ceil_over}
-use Rattle.log_laws.proofs.Ring.{floor_over-le, lt-floor_over}
+use Rattle.log_laws.proofs.Exports.{floor_over-le, lt-floor_over}
 use Rattle.std.proofs.Math.Nat.{add-mul-div_right, zero-div}
 use Rattle.std.proofs.lemmas.Nat.{div-mul-add}
 use Rattle.pr_params.proofs.Component.{at_most}
@@ -12,7 +12,7 @@ use Rattle.case_types.specs.declared.phases.Phase.{Phase}
 use Rattle.case_types.specs.Bounds.{energy_up, plane_at, plane_times, phases_up, share_of_energy, box_of_parts}
 use Rattle.case_types.specs.Columns.{point_box}
 use Rattle.case_types.specs.Numbers.{Numbers}
-use Rattle.case_types.specs.Sums.{int_sum_below, sum_below, all_below}
+use Rattle.log_laws.specs.Sums.{int_sum_below, sum_below, all_below}
 
 -- a whole share of an energy is the energy
 whole_share : (u : ℤ) → share_of_energy 1 1 u ≡ u

@@ -1,25 +1,23 @@
 -- What `Params` keeps of a case, and how large the numbers of one component are.
-use Rattle.std.proofs.Common.{◌≡◌, ℕ, zero, suc, ◌+◌, ◌*◌, ◌^◌, ◌<◌, ◌≤◌, List, [], ◌∷◌, get_or, map, take, cond, IsTrue, Bool, true, false, ◌&&◌, ℤ, pos, negsuc, neg_ℤ, ◌-ℤ◌, ◌*ℤ◌, ◌≤ℤ◌, refl, sym, ◌∙◌, ap, arith, None}
-use Rattle.std.specs.Prelude.{int_le}
+use Rattle.std.proofs.Common.{◌≡◌, ℕ, zero, suc, ◌+◌, ◌*◌, ◌^◌, ◌<◌, ◌≤◌, List, [], ◌∷◌, get_or, map, take, cond, Bool, true, false, ℤ, pos, negsuc, ◌-ℤ◌, ◌*ℤ◌, ◌≤ℤ◌, refl, sym, ◌∙◌, ap, arith, None}
 use Rattle.std.specs.Int.{int_max}
 use Rattle.std.proofs.lemmas.Int.{ints, clamps}
 use Rattle.log_laws.specs.Between.{Ends}
 use Rattle.log_laws.specs.Squaring.{down, up}
 use Rattle.log_laws.specs.Roots.{root_digits, with_digit}
 use Rattle.log_laws.specs.Whole.{floor_over, ceil_div}
-use Rattle.log_laws.proofs.Ring.{ceil_over-pos}
+use Rattle.log_laws.proofs.Exports.{ceil_over-pos}
 use Rattle.fix_interval.specs.declared.iv.Iv.{Iv}
 use Rattle.fix_interval.specs.Interval.{ends_of}
 use Rattle.case_types.specs.declared.cases.Case.{Case}
-use Rattle.case_types.specs.CaseWords.{interaction}
+use Rattle.case_types.specs.CaseWords.{critical_pressure, interaction}
 use Rattle.case_types.specs.Faults.{fault_of}
-use Rattle.case_types.specs.Numbers.{Numbers, numbers_of, enclosures_of, lift_of, lift_up_to, fits_lifted}
-use Rattle.case_types.specs.Ranges.{entry, is_interaction}
-use Rattle.case_types.specs.Sums.{all_below}
+use Rattle.case_types.specs.Numbers.{Numbers, numbers_of, enclosures_of, lift_of, lift_up_to, fits_lifted, bare_attraction_ends}
+use Rattle.log_laws.specs.Sums.{all_below}
 use Rattle.pr_params.specs.declared.numbers.Params.{Params}
 use Rattle.pr_params.specs.Held.{ends_in}
 use Rattle.pr_params.specs.One.{num_one, den_one, bare_one, alpha_one, covolume_one, attraction_one, ratio_one}
-use Rattle.pr_params.proofs.Component.{and_true}
+use Rattle.pr_params.proofs.Components.{interaction_at_most}
 use Rattle.pr_params.proofs.Lift.{lift_up_to_is}
 use Rattle.pr_params.proofs.One.{numbers_one}
 use Rattle.pr_params.proofs.Sizes.{accepted_one, den_positive, raised_high, quotient_low, ceiling_high, ceiling_at_most}
@@ -106,14 +104,14 @@ unfolding covolume_one
 covolume_sizes c h e =
     let k = accepted_one c h e in
     let l = lift_up_to_is c 29 h k.small in
-    let d = den_positive c h in
+    let d = den_positive c in
     let low = quotient_low (num_one c) (den_one c) (lift_of c) d (raised_high (num_one c) (den_one c) (lift_of c) k.large l) in
     let high = ceiling_high (num_one c) (den_one c) (lift_of c) d l.lifted in
     (omega (arith, ints, low), rw (ceil_over-pos (num_one c * 2 ^ (56 + lift_of c)) (den_one c) d) (omega (arith, ints, high)))
 
 -- ---- the attraction isn't negative
 -- the floor of a number that isn't negative isn't
-floor_positive : (z : ℤ) (d : ℕ) → pos 0 ≤ℤ z → pos 0 ≤ℤ floor_over z d
+pub floor_positive : (z : ℤ) (d : ℕ) → pos 0 ≤ℤ z → pos 0 ≤ℤ floor_over z d
 floor_positive (pos n) d h = omega (arith, ints)
 floor_positive (negsuc n) d h = absurd (omega (arith, ints, h))
 
@@ -123,45 +121,19 @@ product_positive (pos a) (pos b) h g = omega (arith, ints)
 product_positive (pos a) (negsuc b) h g = absurd (omega (arith, ints, g))
 product_positive (negsuc a) b h g = absurd (omega (arith, ints, h))
 
--- what the test says
-int_at_most : (a b : ℤ) → IsTrue (int_le a b) → a ≤ℤ b
-int_at_most a b h = grind (arith, ints, h)
-
--- the first of four tests that hold together holds
-first_of : (a b c d : Bool) → IsTrue ((((true && a) && b) && c) && d) → IsTrue a
-first_of true b c d h = refl
-first_of false b c d h = h
-
--- the test of one interaction
-abbrev pair_within : List (List ℤ) → ℕ → ℕ → Bool
-pair_within rows i j = is_interaction (entry rows i j) && int_le (entry rows i j) (entry rows j i)
-
--- the tests of a row
-abbrev row_within : List (List ℤ) → ℕ → Bool
-row_within rows i = all_below 4 (λ j. pair_within rows i j)
-
--- the tests of the diagonal
-abbrev diagonal_within : List (List ℤ) → Bool
-diagonal_within rows = all_below 4 (λ i. int_le (entry rows i i) (pos 0) && int_le (pos 0) (entry rows i i))
-
--- the interaction of the component with itself is at most 0.5
-interaction_high : (c : Case) → interaction c 0 0 ≤ℤ pos 5000
-interaction_high c =
-    let k = c.k in
-    let rows = (and_true (all_below 4 (λ i. row_within k i)) (diagonal_within k) c.interactions).0 in
-    let row = first_of (row_within k 0) (row_within k 1) (row_within k 2) (row_within k 3) rows in
-    let place = first_of (pair_within k 0 0) (pair_within k 0 1) (pair_within k 0 2) (pair_within k 0 3) row in
-    let range = (and_true (is_interaction (entry k 0 0)) (int_le (entry k 0 0) (entry k 0 0)) place).0 in
-    let below = (and_true (int_le (neg_ℤ (pos 5000)) (entry k 0 0)) (int_le (entry k 0 0) (pos 5000)) range).1 in
-    int_at_most (entry k 0 0) (pos 5000) below
-
--- the attraction without alpha isn't negative
-bare_positive : (c : Case) → pos 0 ≤ℤ (bare_one c).lo
-unfolding bare_one
-bare_positive c =
-    let k = interaction_high c in
-    let rest : pos 0 ≤ℤ (pos 10000 -ℤ interaction c 0 0) = omega (arith, ints, k) in
+-- the attraction of two components without alpha isn't negative
+pub bare_positive : (c : Case) (lift : ℕ) (q : Ends) (i j : ℕ) → i < c.n → j < c.n → pos 0 ≤ℤ (bare_attraction_ends c lift q i j).lo
+bare_positive c lift q i j h g =
+    let k = interaction_at_most c i j h g in
+    let rest : pos 0 ≤ℤ (pos 10000 -ℤ interaction c i j) = omega (arith, ints, k) in
     floor_positive _ _ (product_positive _ _ (product_positive _ _ rest (omega (arith, ints))) (omega (arith, ints)))
+
+-- nor is that of one component
+bare_one_positive : (c : Case) → pos 0 ≤ℤ (bare_one c).lo
+unfolding bare_one
+bare_one_positive c =
+    let own = pos (critical_pressure c 0 * 2 ^ 32) in
+    bare_positive c (lift_of c) (record { lo = own; hi = own }) 0 0 c.some c.some
 
 -- the attraction isn't negative
 pub attraction_positive : (c : Case) → c.n ≡ 1 → fault_of c ≡ None → pos 0 ≤ℤ (attraction_one c).lo
@@ -169,7 +141,7 @@ unfolding attraction_one
 attraction_positive c h e =
     let k = accepted_one c h e in
     let m : pos 0 ≤ℤ (alpha_one c).lo = omega (arith, ints, k.alpha) in
-    floor_positive _ _ (product_positive (bare_one c).lo _ (bare_positive c) (floor_positive _ _ (product_positive _ _ m m)))
+    floor_positive _ _ (product_positive (bare_one c).lo _ (bare_one_positive c) (floor_positive _ _ (product_positive _ _ m m)))
 
 -- ---- the attraction over the co-volume
 -- the ceiling of a ratio of at most 1, in 2 ^ -47, lies from 0 to 2 ^ 47

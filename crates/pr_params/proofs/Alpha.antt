@@ -5,8 +5,8 @@ use Rattle.std.proofs.Math.Nat.{mul-le-mul}
 use Rattle.std.proofs.lemmas.Nat.{mul-lt}
 use Rattle.std.proofs.lemmas.Int.{unsigned_abs-mul, ints, clamps}
 use Rattle.log_laws.specs.Whole.{floor_over, ceil_over}
-use Rattle.log_laws.proofs.Wide.{back}
-use Rattle.log_laws.proofs.Ring.{up-mul, down-mul}
+use Rattle.log_laws.proofs.Exports.{back}
+use Rattle.log_laws.proofs.Exports.{up-mul, down-mul}
 use borrow.Author.Differences.{same_in}
 use Rattle.case_types.specs.Parameters.{kappa_of}
 

@@ -5,8 +5,7 @@ use borrow.Author.Differences.{up, le_out, lt_out, product_is}
 use Rattle.log_laws.specs.Between.{Ends, IsBetween}
 use Rattle.log_laws.specs.Fraction.{Fraction, sum_of, difference, product_of}
 use Rattle.log_laws.specs.LogSum.{ratio, IsPositive}
-use Rattle.log_laws.proofs.Parts.{IsParts, parts_one, parts_ratio, parts_sum, parts_product, parts_negated, parts_respelled, product_pos}
-use Rattle.log_laws.proofs.Terms.{one, parts_quotient, quotient_of_parts, by_ratio, order_of_ratios}
+use Rattle.log_laws.proofs.Exports.{IsParts, parts_one, parts_ratio, parts_sum, parts_product, parts_negated, parts_respelled, product_pos, one, parts_quotient, quotient_of_parts, by_ratio, order_of_ratios}
 use Rattle.case_types.specs.Divisions.{attraction_argument}
 use Rattle.pr_params.specs.Packings.{IsPacking}
 

@@ -1,25 +1,25 @@
--- The ranges of the component of a case of one component.
-use Rattle.std.proofs.Common.{◌≡◌, ℕ, ◌<◌, ◌≤◌, Bool, true, false, ◌&&◌, nat_le, IsTrue, List, [], ◌∷◌, length, get_or, slice_index, slice_index_or, map, refl, ℤ, pos, neg_ℤ, ◌≤ℤ◌, subst, arith}
+-- What a case says of a component, and its first row.
+use Rattle.std.proofs.Common.{◌≡◌, ℕ, ◌<◌, ◌≤◌, Bool, true, false, ◌&&◌, nat_le, IsTrue, List, [], ◌∷◌, length, get_or, slice_index, slice_index_or, map, refl, ℤ, pos, neg_ℤ, ◌≤ℤ◌, arith}
 use Rattle.std.specs.Prelude.{int_le}
 use Rattle.std.proofs.lemmas.Int.{ints}
 use Rattle.case_types.specs.declared.cases.Case.{Case}
 use Rattle.case_types.specs.declared.cases.Row.{Row}
-use Rattle.case_types.specs.CaseWords.{critical_temperature, critical_pressure, acentric_factor, interaction}
-use Rattle.case_types.specs.Ranges.{is_critical_temperature, is_critical_pressure, is_acentric_factor}
-use Rattle.case_types.specs.Sums.{all_below}
+use Rattle.case_types.specs.CaseWords.{interaction}
 
+-- two tests that hold together
 pub and_true : (a b : Bool) → IsTrue (a && b) → IsTrue a × IsTrue b
 and_true true true t = (t, t)
 and_true true false t = absurd (cc t)
 and_true false b t = absurd (cc t)
 
+-- what tests of order say
 pub at_most : (a b : ℕ) → IsTrue (nat_le a b) → a ≤ b
 at_most a b h = grind (arith, h)
 
-int_at_most : (a b : ℤ) → IsTrue (int_le a b) → a ≤ℤ b
+pub int_at_most : (a b : ℤ) → IsTrue (int_le a b) → a ≤ℤ b
 int_at_most a b h = grind (arith, ints, h)
 
--- what a case says of its one component
+-- the ranges of a component
 pub record IsComponent (tc pc : ℕ) (w : ℤ) : Type 0 where
   pub tc_low : 5000 ≤ tc
   pub tc_high : tc ≤ 1500000
@@ -27,20 +27,6 @@ pub record IsComponent (tc pc : ℕ) (w : ℤ) : Type 0 where
   pub pc_high : pc ≤ 50000000
   pub w_low : neg_ℤ (pos 5000) ≤ℤ w
   pub w_high : w ≤ℤ pos 15000
-
-pub component_one : (c : Case) → c.n ≡ 1 → IsComponent (critical_temperature c 0) (critical_pressure c 0) (acentric_factor c 0)
-component_one c h =
-    let tc = and_true _ _ (subst (λ n. IsTrue (all_below n (λ i. is_critical_temperature (critical_temperature c i)))) h c.tc_range) in
-    let pc = and_true _ _ (subst (λ n. IsTrue (all_below n (λ i. is_critical_pressure (critical_pressure c i)))) h c.pc_range) in
-    let w = and_true _ _ (subst (λ n. IsTrue (all_below n (λ i. is_acentric_factor (acentric_factor c i)))) h c.w_range) in
-    record {
-      tc_low = at_most _ _ tc.0;
-      tc_high = at_most _ _ tc.1;
-      pc_low = at_most _ _ pc.0;
-      pc_high = at_most _ _ pc.1;
-      w_low = int_at_most _ _ w.0;
-      w_high = int_at_most _ _ w.1;
-    }
 
 -- the first row of a list
 pub first_nat : (f : Row → ℕ) (rows : List Row) (d : Row) → 0 < length rows → f (get_or rows 0 d) ≡ slice_index (map f rows) 0

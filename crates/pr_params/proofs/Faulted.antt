@@ -9,16 +9,16 @@ use Rattle.case_types.specs.Faults.{fault_of}
 use Rattle.pr_params.specs.One.{num_one, den_one, alpha_one, covolume_one, attraction_one}
 use Rattle.pr_params.proofs.One.{fault_one}
 
-le_yes : (a b : ℕ) → a ≤ b → nat_le a b ≡ true
+pub le_yes : (a b : ℕ) → a ≤ b → nat_le a b ≡ true
 le_yes a b h = grind (arith, h)
 
 le_no : (a b : ℕ) → b < a → nat_le a b ≡ false
 le_no a b h = grind (arith, h)
 
-lt_yes : (a b : ℕ) → a < b → nat_lt a b ≡ true
+pub lt_yes : (a b : ℕ) → a < b → nat_lt a b ≡ true
 lt_yes a b h = grind (arith, h)
 
-lt_no : (a b : ℕ) → b ≤ a → nat_lt a b ≡ false
+pub lt_no : (a b : ℕ) → b ≤ a → nat_lt a b ≡ false
 lt_no a b h = grind (arith, h)
 
 below_yes : (a b : ℤ) → a <ℤ b → int_lt a b ≡ true

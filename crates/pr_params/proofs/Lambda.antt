@@ -9,11 +9,8 @@ use Rattle.log_laws.specs.Fraction.{Fraction, IsAtMost, negated, difference, who
 use Rattle.log_laws.specs.LogSum.{LogSum, AtLeast, AtMost, ratio, IsPositive, times_log}
 use Rattle.log_laws.specs.Squaring.{down as digits_down, up as digits_up, log_down, log_up}
 use Rattle.log_laws.specs.Whole.{ceil_quotient}
-use Rattle.log_laws.proofs.Opposite.{at_most_is_opposite, at_least_powers}
-use Rattle.log_laws.proofs.Parts.{IsParts, parts_self, parts_sum_at, product_pos}
-use Rattle.log_laws.proofs.Ring.{ceil_over-pos}
-use Rattle.log_laws.proofs.Terms.{one, over_den, lowered, quotient_at_least, minus_log_quotient, at_least-same, same_argument_of, quotient_of_parts, order_of_ratios}
-use Rattle.log_enclose.proofs.Bounds.{log_down_at_least, log_up_at_most}
+use Rattle.log_laws.proofs.Exports.{at_most_is_opposite, at_least_powers, IsParts, parts_self, parts_sum_at, product_pos, ceil_over-pos, one, over_den, lowered, quotient_at_least, minus_log_quotient, at_least-same, same_argument_of, quotient_of_parts, order_of_ratios}
+use Rattle.log_enclose.proofs.Exports.{log_down_at_least, log_up_at_most}
 use Rattle.case_types.specs.Bounds.{lambda_up, lambda_down, stretched_up, stretched_down}
 use Rattle.case_types.specs.Divisions.{bits, log_of, minus_log_of, attraction_argument}
 use Rattle.case_types.specs.declared.cases.Case.{Case}

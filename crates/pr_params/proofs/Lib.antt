@@ -13,3 +13,12 @@ pub mod Argument
 pub mod Lambda
 pub mod Pull
 pub mod Sized
+pub mod Below
+pub mod Components
+pub mod Right
+pub mod AtComponents
+pub mod Enclosed
+pub mod Attracted
+pub mod ParametersHold
+pub mod MeansHold
+pub mod GreatestLift

@@ -6,7 +6,7 @@ use Rattle.std.proofs.lemmas.Nat.{pow-add}
 use Rattle.std.proofs.Math.Nat.{mul-le-mul, mul-le-mul_left, mul-le-mul_right, pow-suc, pow-zero, one-mul}
 use Rattle.log_laws.specs.Between.{Ends}
 use Rattle.log_laws.specs.Whole.{floor_over, ceil_over, ceil_quotient}
-use Rattle.log_laws.proofs.Ring.{ceil_over-pos}
+use Rattle.log_laws.proofs.Exports.{ceil_over-pos}
 use Rattle.log_laws.specs.LogE.{log_e_ends}
 use Rattle.log_laws.specs.Roots.{root_ends}
 use Rattle.fix_interval.specs.declared.iv.Iv.{Iv}

@@ -6,11 +6,11 @@ use Rattle.log_laws.specs.Between.{Ends}
 use Rattle.log_laws.specs.LogE.{log_e_ends}
 use Rattle.log_laws.specs.Roots.{root_ends}
 use Rattle.log_laws.specs.Whole.{floor_div, ceil_div, ceil_quotient}
-use Rattle.log_laws.proofs.Ring.{ceil_over-pos}
+use Rattle.log_laws.proofs.Exports.{ceil_over-pos}
 use Rattle.case_types.specs.declared.cases.Case.{Case}
 use Rattle.case_types.specs.Bounds.{Box, one, covolume_range, attraction_low, attraction_high, ratio_low, ratio_high}
 use Rattle.case_types.specs.Numbers.{Numbers, numbers_of, lift_of}
-use Rattle.case_types.specs.Sums.{least_below, greatest_below, int_sum_below}
+use Rattle.log_laws.specs.Sums.{least_below, greatest_below, int_sum_below}
 use Rattle.case_types.specs.Faults.{fault_of}
 use Rattle.pr_params.specs.One.{num_one, den_one, alpha_one, bare_one, covolume_one, attraction_one, ratio_one}
 use Rattle.pr_params.proofs.Accepted.{covolume_sizes}
@@ -72,15 +72,15 @@ range_one : (c : Case) (x : Box) → c.n ≡ 1 → pos 0 ≤ℤ (covolume_one c)
 range_one c x h low high = ap (λ (q : Numbers). covolume_range q x) (numbers_are c h) ∙ range_at_one c x low high
 
 -- the upper end of the co-volume isn't negative
-hi_positive : (c : Case) → c.n ≡ 1 → pos 0 ≤ℤ (covolume_one c).hi
+hi_positive : (c : Case) → pos 0 ≤ℤ (covolume_one c).hi
 unfolding covolume_one
-hi_positive c h = rw (ceil_over-pos (num_one c * 2 ^ (56 + lift_of c)) (den_one c) (den_positive c h)) (omega (arith, ints))
+hi_positive c = rw (ceil_over-pos (num_one c * 2 ^ (56 + lift_of c)) (den_one c) (den_positive c)) (omega (arith, ints))
 
 -- the same where the case is accepted
 pub range_is : (c : Case) (x : Box) → c.n ≡ 1 → fault_of c ≡ None → covolume_range (numbers_of c) x ≡ covolume_one c
 range_is c x h e =
     let low = (covolume_sizes c h e).0 in
-    range_one c x h (omega (arith, ints, low)) (hi_positive c h)
+    range_one c x h (omega (arith, ints, low)) (hi_positive c)
 
 -- ---- the attraction
 -- a fraction of a number, rounded up

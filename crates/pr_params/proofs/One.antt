@@ -12,7 +12,7 @@ use Rattle.case_types.specs.CaseWords.{critical_temperature, critical_pressure}
 use Rattle.case_types.specs.Instances.{Enclosures}
 use Rattle.case_types.specs.Numbers.{Numbers, numbers_of, enclosures_of, lift_of, covolume_ends, alpha_root_ends, bare_attraction_ends, attraction_ends, table_below, pressure_root_of, greatest_ratio}
 use Rattle.case_types.specs.Faults.{fault_of, first_below, or_else, fault_where, alpha_fault, attraction_fault}
-use Rattle.case_types.specs.Sums.{list_below, greatest_below, all_below}
+use Rattle.log_laws.specs.Sums.{list_below, greatest_below, all_below}
 use Rattle.pr_params.specs.One.{num_one, den_one, root_one, alpha_one, covolume_one, bare_one, attraction_one, ratio_one}
 use Rattle.case_types.specs.Tables.{no_ends, ends_at, ends_of_pair}
 

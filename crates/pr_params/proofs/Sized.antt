@@ -7,8 +7,7 @@ use borrow.Author.Differences.{le_out, at_most_in, product_is}
 use Rattle.log_laws.specs.Between.{Ends, IsBetween}
 use Rattle.log_laws.specs.Fraction.{Fraction, IsFraction, product_of}
 use Rattle.log_laws.specs.LogSum.{IsPositive}
-use Rattle.log_laws.proofs.Parts.{product_pos}
-use Rattle.log_laws.proofs.Ring.{≤ℤ_trans}
+use Rattle.log_laws.proofs.Exports.{product_pos, ≤ℤ_trans}
 use Rattle.case_types.specs.declared.cases.Case.{Case}
 use Rattle.case_types.specs.Bounds.{Box, covolume_range}
 use Rattle.case_types.specs.Faults.{fault_of}
@@ -18,7 +17,7 @@ use Rattle.case_types.specs.Divisions.{State, moles, mole_fraction, mean_attract
 use Rattle.case_types.specs.Holding.{HoldsParameters}
 use Rattle.case_types.specs.Instances.{Instance}
 use Rattle.case_types.specs.Parameters.{attraction}
-use Rattle.case_types.specs.Sums.{all_below, fraction_sum_below}
+use Rattle.log_laws.specs.Sums.{all_below, fraction_sum_below}
 use Rattle.pr_params.proofs.Argument.{positive_between}
 use Rattle.pr_params.proofs.Pull.{by_natural}
 use Rattle.pr_params.proofs.Accepted.{two_exact, e_exact, lift_small, covolume_sizes}

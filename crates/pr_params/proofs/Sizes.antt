@@ -11,19 +11,20 @@ use Rattle.case_types.specs.declared.cases.Case.{Case}
 use Rattle.case_types.specs.declared.cases.ParamFault.{ParamFault}
 use Rattle.case_types.specs.declared.cases.ParamFault.TheVariants.{ARange}
 use Rattle.case_types.specs.Faults.{fault_of, or_else, fault_where}
-use Rattle.pr_params.proofs.Component.{component_one}
+use Rattle.pr_params.proofs.Components.{den_positive_at}
+use Rattle.pr_params.proofs.Below.{or_else_none}
 use Rattle.pr_params.proofs.Lift.{IsLift}
 use Rattle.pr_params.specs.One.{num_one, den_one, covolume_one, alpha_one, attraction_one}
 use Rattle.pr_params.proofs.One.{fault_one}
 
--- the first of two faults is none, so neither is there
-pub or_where : (b : Bool) (f : ParamFault) (o : Option ParamFault) → or_else (fault_where b f) o ≡ None → (b ≡ false) × (o ≡ None)
-or_where true f o e = absurd (cc e)
-or_where false f o e = (cc, e)
-
+-- a fault that isn't there wasn't met
 pub where_none : (b : Bool) (f : ParamFault) → fault_where b f ≡ None → b ≡ false
 where_none true f e = absurd (cc e)
 where_none false f e = cc
+
+-- the first of two faults is none, so neither is there
+pub or_where : (b : Bool) (f : ParamFault) (o : Option ParamFault) → or_else (fault_where b f) o ≡ None → (b ≡ false) × (o ≡ None)
+or_where b f o e = let both = or_else_none (fault_where b f) o e in (where_none b f both.0, both.1)
 
 in_range : (x y : ℕ) (d : ℕ) → not (nat_le x (32 * d) && not (nat_lt y d)) ≡ false → (x ≤ 32 * d) × (d ≤ y)
 in_range x y d e =
@@ -36,7 +37,7 @@ in_range x y d e =
       ]
     ]
 
-not_less : (a b : ℤ) → int_lt a b ≡ false → b ≤ℤ a
+pub not_less : (a b : ℤ) → int_lt a b ≡ false → b ≤ℤ a
 not_less a b e = grind (arith, ints, e)
 
 -- the covolume lies between 2^-24 and 32, the root of alpha above 2^-10, the attraction at most 128 times the covolume
@@ -61,12 +62,9 @@ accepted_one c h e =
       attraction = omega (arith, ints, clamps, below);
     }
 
-pub den_positive : (c : Case) → c.n ≡ 1 → 0 < den_one c
-den_positive c h =
-    let k = component_one c h in
-    let p = mul-le-mul_right c.t k.pc_low in
-    let q = mul-le-mul_left 100000 c.t_low in
-    omega (arith, p, q)
+-- the denominator of the co-volume is positive
+pub den_positive : (c : Case) → 0 < den_one c
+den_positive c = den_positive_at c 0 c.some
 
 -- raised, the covolume is at least 16
 pub raised_high : (num den lift : ℕ) → den ≤ num * 2 ^ 24 → IsLift num den 29 lift → 16 * den ≤ num * 2 ^ lift

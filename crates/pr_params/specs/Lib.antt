@@ -2,3 +2,4 @@ pub mod Held
 pub mod Boxes
 pub mod One
 pub mod Packings
+pub mod Kept

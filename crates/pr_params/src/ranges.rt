@@ -1,11 +1,16 @@
 //! The mean co-volume and the mean attraction over it, at every composition of a box.
 
-ghost use Rattle.std.specs.Prelude.{◌≡◌, ◌≤◌, ◌<◌, ◌^◌, ◌*◌, ◌/◌, pos, ◌≤ℤ◌, slice_index};
+ghost use Rattle.std.specs.Prelude.{◌≡◌, ◌≤◌, ◌<◌, ◌^◌, ◌+◌, ◌*◌, ◌/◌, pos, ◌≤ℤ◌, slice_index};
 ghost use Rattle.std.specs.Int.{int_min};
 ghost use Rattle.log_laws.specs.Whole.{ceil_quotient};
 ghost use Rattle.fix_interval.specs.Interval.{ends_of};
-ghost use Rattle.case_types.specs.Numbers.{numbers_of};
+ghost use Rattle.log_laws.specs.Between.{IsBetween};
+ghost use Rattle.log_laws.specs.Fraction.{IsAtMost};
+ghost use Rattle.case_types.specs.Numbers.{numbers_of, enclosures_of};
 ghost use Rattle.case_types.specs.Bounds.{covolume_range, ratio_high, ratio_low};
+ghost use Rattle.case_types.specs.Divisions.{State, moles, bits, mean_covolume};
+ghost use Rattle.case_types.specs.Holding.{IsInBox, attraction_ratio};
+ghost use Rattle.case_types.specs.Instances.{Instance, IsInstance};
 ghost use Rattle.pr_params.specs.Boxes.{box_of};
 
 use crate::attractions::ratio_of;
@@ -22,6 +27,9 @@ pub fn b_range(params: &Params, x: &BoxX) -> Iv
     ensures ends { ends_of result ≡ covolume_range (numbers_of params.now.case) (box_of x.now) }
     ensures low { pos (2 ^ 60) ≤ℤ result.lo }
     ensures high { result.hi ≤ℤ pos (2 ^ 61) }
+    ensures holds { (f : State) →
+        IsInBox params.now.case.n (box_of x.now) f → 0 < moles params.now.case.n f →
+        IsBetween (ends_of result) (2 ^ (56 + (numbers_of params.now.case).lift)) (mean_covolume params.now.case f) }
 {
     covolume_of(params)
 }
@@ -32,6 +40,10 @@ pub fn g_hi(params: &Params, x: &BoxX) -> i128
     ensures value { result ≡ ratio_high (numbers_of params.now.case) (box_of x.now) }
     ensures low { pos 0 ≤ℤ result }
     ensures high { result ≤ℤ pos (2 ^ 47) }
+    ensures at_most { (i : Instance) (f : State) →
+        IsInstance params.now.case (enclosures_of params.now.case) i →
+        IsInBox params.now.case.n (box_of x.now) f → 0 < moles params.now.case.n f →
+        IsAtMost (attraction_ratio params.now.case i f) (bits result) }
 {
     let ratio = ratio_up(params, x) as i128;
     let greatest = greatest_of(params);
@@ -55,6 +67,10 @@ pub fn g_lo(params: &Params, x: &BoxX) -> i128
     ensures value { result ≡ ratio_low (numbers_of params.now.case) (box_of x.now) }
     ensures low { pos 0 ≤ℤ result }
     ensures high { result ≤ℤ pos (2 ^ 47) }
+    ensures at_least { (i : Instance) (f : State) →
+        IsInstance params.now.case (enclosures_of params.now.case) i →
+        IsInBox params.now.case.n (box_of x.now) f → 0 < moles params.now.case.n f →
+        IsAtMost (bits result) (attraction_ratio params.now.case i f) }
 {
     let fraction = fraction_lo(x);
     let attraction = scaled_down(fraction, scaled_down(fraction, attraction_lo(params)));

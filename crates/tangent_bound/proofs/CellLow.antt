@@ -5,9 +5,7 @@ use Rattle.std.proofs.lemmas.Bool.{cases_lt}
 use Rattle.std.proofs.lemmas.Int.{ints}
 use borrow.Author.Differences.{product_is, le_out, at_most_in}
 use Rattle.log_laws.specs.LogSum.{LogSum, AtLeast}
-use Rattle.log_laws.proofs.Parts.{product_pos}
-use Rattle.log_laws.proofs.Ring.{mul-le_ℤ, add-mul_ℤ, neg-mul, scale_scale}
-use Rattle.log_laws.proofs.Sums.{at_least_lowers}
+use Rattle.log_laws.proofs.Exports.{product_pos, mul-le_ℤ, add-mul_ℤ, neg-mul, scale_scale, at_least_lowers}
 use Rattle.case_types.specs.declared.cases.Case.{Case}
 use Rattle.case_types.specs.Bounds.{Box, one, energy_low, plane_high, ratio_high}
 use Rattle.case_types.specs.Cells.{Region, box_of_region, free_sum, plain_low, IsWithin}
@@ -15,7 +13,7 @@ use Rattle.case_types.specs.Divisions.{State, IsState, moles, bits, energy_of}
 use Rattle.case_types.specs.Holding.{HoldsParameters, HoldsMeans, IsInBox}
 use Rattle.case_types.specs.Instances.{Instance}
 use Rattle.case_types.specs.Numbers.{Numbers}
-use Rattle.case_types.specs.Sums.{sum_below, list_below}
+use Rattle.log_laws.specs.Sums.{sum_below, list_below}
 use Rattle.case_types.specs.Weighing.{plane_sum, IsAbovePlane}
 use Rattle.pr_params.proofs.Sized.{IsSized}
 use Rattle.tangent_bound.proofs.EnergyLow.{energy_at_least}

@@ -10,10 +10,8 @@ use Rattle.log_laws.specs.Fraction.{Fraction, IsFraction, IsAtMost, whole, negat
 use Rattle.log_laws.specs.LogSum.{AtLeast, ratio, IsPositive, times_log, added}
 use Rattle.log_laws.specs.Squaring.{log_up}
 use Rattle.log_laws.specs.Whole.{ceil_div}
-use Rattle.log_laws.proofs.Parts.{IsParts, parts_one, parts_ratio, parts_sum, parts_negated, parts_respelled, product_pos}
-use Rattle.log_laws.proofs.Ring.{le-ceil_over}
-use Rattle.log_laws.proofs.Terms.{one, minus_log, at_least_adds_at, by_ratio, order_of_ratios}
-use Rattle.log_enclose.proofs.Bounds.{log_up_at_most}
+use Rattle.log_laws.proofs.Exports.{IsParts, parts_one, parts_ratio, parts_sum, parts_negated, parts_respelled, product_pos, le-ceil_over, one, minus_log, at_least_adds_at, by_ratio, order_of_ratios}
+use Rattle.log_enclose.proofs.Exports.{log_up_at_most}
 use Rattle.case_types.specs.declared.cases.Case.{Case}
 use Rattle.case_types.specs.Bounds.{Box, volume_low, mixing_low, covolume_range, ratio_high, lambda_up, energy_low}
 use Rattle.case_types.specs.Divisions.{State, IsState, moles, bits, mole_fraction, mean_covolume, mean_attraction, mixing, volume_part, minus_log_of, log_of, attraction_part, attraction_argument, energy_of}
@@ -21,7 +19,7 @@ use Rattle.case_types.specs.Holding.{HoldsParameters, HoldsMeans, IsInBox}
 use Rattle.case_types.specs.Instances.{Instance}
 use Rattle.case_types.specs.Numbers.{Numbers}
 use Rattle.case_types.specs.Parameters.{attraction}
-use Rattle.case_types.specs.Sums.{int_sum_below, fraction_sum_below}
+use Rattle.log_laws.specs.Sums.{int_sum_below, fraction_sum_below}
 use Rattle.pr_params.specs.Packings.{IsPacking}
 use Rattle.pr_params.proofs.Argument.{positive_between, packing_positive}
 use Rattle.pr_params.proofs.Lambda.{two_ends, respelled, minus_lambda_least, log_not_negative, argument_positive}

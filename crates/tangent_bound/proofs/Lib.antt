@@ -6,4 +6,3 @@ pub mod Mixing
 pub mod EnergyLow
 pub mod PlaneBound
 pub mod CellLow
-pub mod Held

@@ -9,17 +9,13 @@ use Rattle.log_laws.specs.Fraction.{whole, difference, product_of}
 use Rattle.log_laws.specs.LogSum.{LogSum, AtLeast, times_log, ratio, scaled, constant}
 use Rattle.log_laws.specs.Squaring.{log_down}
 use Rattle.log_laws.specs.Whole.{floor_div}
-use Rattle.log_laws.proofs.Sums.{at_least_scales}
-use Rattle.log_laws.proofs.Euler.{log_of_one_more}
-use Rattle.log_laws.proofs.Parts.{IsParts, parts_self, parts_ratio, parts_one, parts_sum, parts_product, parts_negated, parts_respelled, same_of_parts, product_pos}
-use Rattle.log_laws.proofs.Ring.{floor_over-le, mul-le_ℤ, ≤ℤ_trans}
-use Rattle.log_laws.proofs.Terms.{one, over_den, lowered, constant_at_least, at_least-same, IsSameSum, at_least_adds_at}
-use Rattle.log_enclose.proofs.Bounds.{log_down_at_least}
+use Rattle.log_laws.proofs.Exports.{at_least_scales, log_of_one_more, IsParts, parts_self, parts_ratio, parts_one, parts_sum, parts_product, parts_negated, parts_respelled, same_of_parts, product_pos, floor_over-le, mul-le_ℤ, ≤ℤ_trans, one, over_den, lowered, constant_at_least, at_least-same, IsSameSum, at_least_adds_at}
+use Rattle.log_enclose.proofs.Exports.{log_down_at_least}
 use Rattle.case_types.specs.Bounds.{Box, mixing_low}
 use Rattle.case_types.specs.Divisions.{State, moles, bits, mixing_of, mixing}
 use Rattle.case_types.specs.Holding.{IsInBox}
 use Rattle.case_types.specs.Numbers.{Numbers}
-use Rattle.case_types.specs.Sums.{int_sum_below, log_sum_below}
+use Rattle.log_laws.specs.Sums.{int_sum_below, log_sum_below}
 use Rattle.pr_params.proofs.Sized.{e_ends}
 use Rattle.tangent_bound.proofs.Tangents.{IsRight, below}
 use Rattle.tangent_bound.proofs.Terms.{mixing_none, mixing_some}

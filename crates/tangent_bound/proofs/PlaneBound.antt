@@ -6,11 +6,11 @@ use Rattle.std.proofs.lemmas.Bool.{cases_lt}
 use Rattle.std.proofs.lemmas.Int.{ints, clamps}
 use borrow.Author.Differences.{up, down, at_most_in, le_out, product_is, sum_is_lem, same_in}
 use Rattle.log_laws.specs.Whole.{ceil_div}
-use Rattle.log_laws.proofs.Ring.{up-mul, down-mul, mul-le_ℤ, mul-add_ℤ, add-mul_ℤ, between, le-ceil_over, ≤ℤ_trans, neg-mul}
+use Rattle.log_laws.proofs.Exports.{up-mul, down-mul, mul-le_ℤ, mul-add_ℤ, add-mul_ℤ, between, le-ceil_over, ≤ℤ_trans, neg-mul}
 use Rattle.case_types.specs.Bounds.{Box, one, low_fraction, high_fraction, plane_high}
 use Rattle.case_types.specs.Divisions.{State, moles}
 use Rattle.case_types.specs.Holding.{IsInBox}
-use Rattle.case_types.specs.Sums.{sum_below, int_sum_below, greatest_below}
+use Rattle.log_laws.specs.Sums.{sum_below, int_sum_below, greatest_below}
 use Rattle.case_types.specs.Weighing.{plane_sum}
 use Rattle.pr_params.proofs.Sized.{cancelled}
 

@@ -8,7 +8,7 @@ use Rattle.log_laws.specs.Squaring.{log_up, log_down}
 use Rattle.log_laws.specs.Whole.{floor_div, ceil_div}
 use Rattle.case_types.specs.Bounds.{Box, one, mixing_low, volume_low, covolume_scale, covolume_range, ratio_high, lambda_up, energy_low}
 use Rattle.case_types.specs.Numbers.{Numbers}
-use Rattle.case_types.specs.Sums.{int_sum_below}
+use Rattle.log_laws.specs.Sums.{int_sum_below}
 
 -- ---- mixing
 -- no fraction adds nothing

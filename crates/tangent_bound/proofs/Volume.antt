@@ -8,10 +8,9 @@ use Rattle.log_laws.specs.Between.{Ends, IsBetween}
 use Rattle.log_laws.specs.Fraction.{Fraction, IsAtMost}
 use Rattle.log_laws.specs.LogSum.{AtLeast, ratio, times_log, added, constant}
 use Rattle.log_laws.specs.Squaring.{log_down}
-use Rattle.log_laws.proofs.Parts.{product_pos}
-use Rattle.log_laws.proofs.Terms.{one, over_den, by_ratio, order_of_ratios}
-use Rattle.log_enclose.proofs.Bounds.{log_down_at_least}
-use Rattle.log_enclose.proofs.Constants.{low_of_e, high_of_e}
+use Rattle.log_laws.proofs.Exports.{product_pos, one, over_den, by_ratio, order_of_ratios}
+use Rattle.log_enclose.proofs.Exports.{log_down_at_least, holds_log_e_ends, printed_log_e}
+use Rattle.log_laws.specs.LogE.{HoldsLogE}
 use Rattle.case_types.specs.Bounds.{volume_low, covolume_scale}
 use Rattle.case_types.specs.Divisions.{bits, volume_part}
 use Rattle.case_types.specs.Numbers.{Numbers}
@@ -161,7 +160,7 @@ volume_at_quotients p yn yd yl yh rn rd blo m cl ch right packing prd pcl ends s
 
 -- ---- for fractions between ends
 pub e_right : IsRight (2 ^ 24) 1586259924992 1586260020565 (2 ^ 40)
-e_right = record { m_pos = lit< tt; o_pos = lit< tt; low = low_of_e; high = high_of_e }
+e_right = let h = subst HoldsLogE printed_log_e holds_log_e_ends in record { m_pos = lit< tt; o_pos = lit< tt; low = h.above; high = h.below }
 
 -- a covolume of 2 ^ 60 at least makes the flat packing 1 unit at least
 start_of : (l blo : ℕ) → l ≤ 29 → 2 ^ 60 ≤ blo → 1586260020565 * 2 ^ (16 + l) ≤ 1586259924992 * blo

@@ -2,7 +2,7 @@ use Rattle.std.proofs.Common.{◌≡◌, ◌^◌, ◌<◌, unsigned_abs, refl, a
 use Rattle.std.specs.Int.{w64, w128}
 use Rattle.std.proofs.lemmas.Int.{ints}
 use Rattle.log_laws.specs.Whole.{ceil_over}
-use Rattle.log_laws.proofs.Wide.{back}
+use Rattle.log_laws.proofs.Exports.{back}
 use Rattle.case_types.specs.Numbers.{Numbers}
 use Rattle.pr_params.proofs.One.{numbers_one}
 use Rattle.box_search.proofs.points.column_at.Goals as goal

@@ -1,6 +1,6 @@
 use Rattle.std.proofs.Common.{slice_index_or, pos, arith}
 use Rattle.std.proofs.lemmas.Int.{ints}
-use Rattle.log_laws.proofs.Wide.{back}
+use Rattle.log_laws.proofs.Exports.{back}
 use Rattle.box_search.proofs.Pure.{plane_at_pure, first_small}
 use Rattle.box_search.proofs.points.refutes.Goals as goal
 

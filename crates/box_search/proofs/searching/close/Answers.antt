@@ -1,6 +1,6 @@
 use Rattle.std.proofs.Common.{◌≡◌, ◌+◌, ◌-◌, ◌∙◌, ◌^◌, pos, neg_ℤ, length, ap, arith}
 use Rattle.std.proofs.lemmas.Int.{ints}
-use Rattle.log_laws.proofs.Wide.{back}
+use Rattle.log_laws.proofs.Exports.{back}
 use Rattle.pr_params.proofs.Alpha.{abs_within}
 use Rattle.case_types.specs.Cells.{region_of}
 use Rattle.case_types.specs.Numbers.{numbers_of}

@@ -1,6 +1,6 @@
 use Rattle.std.proofs.Common.{ap, arith}
 use Rattle.std.proofs.lemmas.Int.{ints}
-use Rattle.log_laws.proofs.Wide.{back}
+use Rattle.log_laws.proofs.Exports.{back}
 use Rattle.case_types.specs.Numbers.{Numbers}
 use Rattle.pr_params.proofs.One.{numbers_one}
 use Rattle.box_search.proofs.searching.refuting.Goals as goal

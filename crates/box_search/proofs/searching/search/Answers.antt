@@ -1,7 +1,7 @@
 use Rattle.std.proofs.Common.{◌≡◌, ◌≤◌, ◌+◌, ◌-◌, ◌*◌, ◌^◌, [], ◌∷◌, length, pos, neg_ℤ, ◌<ℤ◌, to_z, of_z, ap, refl, ◌∙◌, inl, inr, arith}
 use Rattle.std.specs.Int.{w128}
 use Rattle.std.proofs.lemmas.Int.{ints}
-use Rattle.log_laws.proofs.Wide.{back}
+use Rattle.log_laws.proofs.Exports.{back}
 use Rattle.case_types.specs.Cells.{region_of, root_region, plain_low}
 use Rattle.case_types.specs.Numbers.{numbers_of}
 use Rattle.pr_params.proofs.Alpha.{abs_within}

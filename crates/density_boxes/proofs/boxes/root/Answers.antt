@@ -1,5 +1,5 @@
 use Rattle.std.proofs.Common.{refl}
-use Rattle.case_types.specs.Sums.{list_below}
+use Rattle.log_laws.specs.Sums.{list_below}
 use Rattle.density_boxes.proofs.boxes.root.Goals as goal
 
 pub returns : goal.returns

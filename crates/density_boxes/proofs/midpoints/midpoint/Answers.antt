@@ -1,5 +1,5 @@
 use Rattle.std.proofs.Common.{◌≡◌, ◌+◌, ◌/◌, ◌==◌, false, refl, arith}
-use Rattle.case_types.specs.Sums.{list_below}
+use Rattle.log_laws.specs.Sums.{list_below}
 use Rattle.density_boxes.proofs.midpoints.midpoint.Goals as goal
 
 pub returns-clause-value : goal.returns-clause-value

@@ -1,5 +1,5 @@
 use Rattle.std.proofs.Common.{arith, ◌*ℤ◌}
-use Rattle.log_laws.proofs.Wide.{back}
+use Rattle.log_laws.proofs.Exports.{back}
 use Rattle.fix_interval.proofs.Wrapped.{product_small}
 use Rattle.fix_interval.proofs.extremes.product.Goals as goal
 

@@ -1,5 +1,5 @@
 use Rattle.std.proofs.Common.{◌≡◌, arith, ◌*ℤ◌}
-use Rattle.log_laws.proofs.Wide.{back}
+use Rattle.log_laws.proofs.Exports.{back}
 use Rattle.fix_interval.specs.Extremes.{least_product, greatest_product}
 use Rattle.fix_interval.proofs.Corners.{least-le-greatest}
 use Rattle.fix_interval.proofs.Wrapped.{product_is, least_is, greatest_is, least_product_small, greatest_product_small}

@@ -1,7 +1,7 @@
 use Rattle.std.proofs.Common.{arith, ◌≤◌, ◌^◌, pos, ◌*ℤ◌, unsigned_abs}
 use Rattle.std.proofs.lemmas.Int.{ints, clamps}
-use Rattle.log_laws.proofs.Wide.{back}
-use Rattle.log_laws.proofs.Ring.{mul-le_ℤ}
+use Rattle.log_laws.proofs.Exports.{back}
+use Rattle.log_laws.proofs.Exports.{mul-le_ℤ}
 use Rattle.log_laws.specs.Whole.{floor_div, ceil_div}
 use Rattle.fix_interval.specs.Interval.{ends_of}
 use Rattle.fix_interval.proofs.Between.{IsBetween-quotient_of}

@@ -1,5 +1,5 @@
 use Rattle.std.proofs.Common.{◌<◌, ◌^◌, unsigned_abs, arith}
-use Rattle.log_laws.proofs.Wide.{back}
+use Rattle.log_laws.proofs.Exports.{back}
 use Rattle.fix_interval.proofs.quotients.div_shift.Goals as goal
 
 pub returns-clause-holds : goal.returns-clause-holds

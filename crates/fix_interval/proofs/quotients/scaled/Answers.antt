@@ -1,7 +1,7 @@
 use Rattle.std.proofs.Common.{arith, ◌^◌, pos, ◌*ℤ◌}
 use Rattle.std.specs.Int.{w128}
 use Rattle.std.proofs.lemmas.Int.{fits_signed_from_abs}
-use Rattle.log_laws.proofs.Wide.{back}
+use Rattle.log_laws.proofs.Exports.{back}
 use Rattle.fix_interval.proofs.Wrapped.{power, scaled_small}
 use Rattle.fix_interval.proofs.quotients.scaled.Goals as goal
 

@@ -1,6 +1,6 @@
 use Rattle.std.proofs.Common.{◌∙◌, ◌<◌, ◌^◌, unsigned_abs, arith}
 use Rattle.std.proofs.lemmas.Int.{ints}
-use Rattle.log_laws.proofs.Wide.{back}
+use Rattle.log_laws.proofs.Exports.{back}
 use Rattle.case_types.specs.Bounds.{lambda_down}
 use Rattle.case_types.specs.Numbers.{numbers_of}
 use Rattle.helmholtz_density.proofs.Mixes.{pull_is}

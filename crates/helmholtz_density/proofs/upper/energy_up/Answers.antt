@@ -4,7 +4,7 @@ use Rattle.std.proofs.lemmas.Int.{ints, to_z_pos}
 use Rattle.log_laws.specs.Between.{Ends}
 use Rattle.log_laws.specs.Squaring.{log_down}
 use Rattle.log_laws.specs.Whole.{floor_div}
-use Rattle.log_laws.proofs.Wide.{back}
+use Rattle.log_laws.proofs.Exports.{back}
 use Rattle.case_types.specs.Bounds.{covolume_scale, covolume_range, lambda_down, ratio_low, energy_up}
 use Rattle.case_types.specs.Divisions.{bits, energy_of}
 use Rattle.log_laws.specs.LogSum.{AtMost}
@@ -14,7 +14,8 @@ use Rattle.pr_params.proofs.Mean.{count_is}
 use Rattle.pr_params.proofs.Signed.{natural_value, difference_read}
 use Rattle.pr_params.proofs.Sized.{sized_one, each_up_to}
 use Rattle.helmholtz_density.proofs.EnergyHigh.{energy_at_most}
-use Rattle.helmholtz_density.proofs.Held.{holds_parameters, holds_means}
+use Rattle.pr_params.proofs.ParametersHold.{holds_parameters}
+use Rattle.pr_params.proofs.MeansHold.{holds_means}
 use Rattle.helmholtz_density.proofs.Energy.{volume_part, attraction_part, energy_up_is, sum_size}
 use Rattle.helmholtz_density.proofs.Mixes.{volume_is}
 use Rattle.helmholtz_density.proofs.upper.energy_up.Goals as goal

@@ -1,6 +1,6 @@
 use Rattle.std.proofs.Common.{◌∙◌, ◌≤◌, ◌^◌, unsigned_abs, sym, arith}
 use Rattle.std.proofs.lemmas.Int.{ints}
-use Rattle.log_laws.proofs.Wide.{back}
+use Rattle.log_laws.proofs.Exports.{back}
 use Rattle.helmholtz_density.proofs.Mixes.{mixing_none, mixing_some}
 use Rattle.helmholtz_density.proofs.upper.mixing.Goals as goal
 use Rattle.helmholtz_density.proofs.upper.mixing.Goals.{After-log2_hi}

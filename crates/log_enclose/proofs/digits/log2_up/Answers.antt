@@ -3,7 +3,7 @@ use Rattle.log_laws.specs.Squaring.{up}
 use Rattle.log_enclose.proofs.Squares.{small_next}
 use Rattle.log_enclose.proofs.SquaresUp.{kept_low_up, kept_high_up, normal_low_up, normal_high_up, at_end_up}
 use Rattle.log_enclose.proofs.Logs.{up_at_most}
-use Rattle.log_enclose.proofs.Width.{width}
+use Rattle.log_enclose.proofs.Width.{width, down_up}
 use Rattle.log_enclose.proofs.digits.log2_up.Goals as goal
 use Rattle.log_enclose.proofs.digits.log2_up.Goals.{then-square, else-square, After-loop-place}
 
@@ -46,7 +46,17 @@ returns-else-at-clause-above c =
     rw ((ends (goal.at.returns-else-at-clause-above c).After-loop-place).1 c.if-at.false) (up_at_most c.args.m c.args.bits c.requires.normal)
 
 pub returns-then-at-clause-near : goal.returns-then-at-clause-near
-returns-then-at-clause-near c = width c.args.m c.args.bits c.requires.few c.requires.normal
+returns-then-at-clause-near c =
+    rw ((ends (goal.at.returns-then-at-clause-near c).After-loop-place).0 c.if-at.true) (width c.args.m c.args.bits c.requires.few c.requires.normal)
 
 pub returns-else-at-clause-near : goal.returns-else-at-clause-near
-returns-else-at-clause-near c = width c.args.m c.args.bits c.requires.few c.requires.normal
+returns-else-at-clause-near c =
+    rw ((ends (goal.at.returns-else-at-clause-near c).After-loop-place).1 c.if-at.false) (width c.args.m c.args.bits c.requires.few c.requires.normal)
+
+pub returns-then-at-clause-above_lower : goal.returns-then-at-clause-above_lower
+returns-then-at-clause-above_lower c =
+    rw ((ends (goal.at.returns-then-at-clause-above_lower c).After-loop-place).0 c.if-at.true) (down_up c.args.m c.args.bits c.requires.normal)
+
+pub returns-else-at-clause-above_lower : goal.returns-else-at-clause-above_lower
+returns-else-at-clause-above_lower c =
+    rw ((ends (goal.at.returns-else-at-clause-above_lower c).After-loop-place).1 c.if-at.false) (down_up c.args.m c.args.bits c.requires.normal)

@@ -1,7 +1,7 @@
 use Rattle.std.proofs.Common.{◌≡◌, ◌≤◌, unsigned_abs, arith}
 use Rattle.std.proofs.lemmas.Int.{ints}
 use Rattle.log_laws.specs.Squaring.{log_down, log_up}
-use Rattle.log_laws.proofs.Wide.{back}
+use Rattle.log_laws.proofs.Exports.{back}
 use Rattle.log_enclose.proofs.Bounds.{log_down_holds, log_up_holds, log_ordered, small_fits}
 use Rattle.log_enclose.proofs.ends.log2_iv.Goals as goal
 

@@ -1,6 +1,6 @@
 use Rattle.std.proofs.Common.{unsigned_abs, arith}
 use Rattle.std.proofs.lemmas.Int.{ints}
-use Rattle.log_laws.proofs.Wide.{back}
+use Rattle.log_laws.proofs.Exports.{back}
 use Rattle.fix_interval.specs.Interval.{ends_of}
 use Rattle.pr_params.proofs.Made.{attraction_is, natural, attraction_ordered}
 use Rattle.pr_params.proofs.making.attraction.Goals as goal

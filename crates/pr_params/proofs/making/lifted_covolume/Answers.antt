@@ -44,5 +44,5 @@ pub returns-clause-ends : goal.returns-clause-ends
 returns-clause-ends c =
     let num = rw c.requires.tc at c.covolume_num-num.ensures.value in
     let den = rw c.requires.pc at c.covolume_den-den.ensures.value in
-    covolume_is c.args.case.now c.lift_of-lift.result c.covolume.result.lo c.covolume.result.hi (den_positive c.args.case.now c.requires.one)
+    covolume_is c.args.case.now c.lift_of-lift.result c.covolume.result.lo c.covolume.result.hi (den_positive c.args.case.now)
     (returns-clause-lift c) (rw (num, den) at c.covolume.ensures.lo) (rw (num, den) at c.covolume.ensures.hi)

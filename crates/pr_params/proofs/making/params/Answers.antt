@@ -2,12 +2,16 @@ use Rattle.std.proofs.Common.{◌≡◌, ◌<◌, pos, unsigned_abs, sym, ap, �
 use Rattle.std.specs.Int.{w128}
 use Rattle.std.proofs.lemmas.Int.{ints}
 use Rattle.log_laws.specs.Between.{Ends}
-use Rattle.log_laws.proofs.Wide.{back}
+use Rattle.log_laws.proofs.Exports.{back}
 use Rattle.pr_params.specs.One.{covolume_one, attraction_one}
 use Rattle.pr_params.proofs.Faulted.{small_alpha, large_attraction, no_fault}
 use Rattle.fix_interval.specs.Interval.{ends, ends_of}
 use Rattle.pr_params.proofs.Made.{natural, ratio_is, numbers_are_made, pairs_are_made}
+use Rattle.pr_params.proofs.GreatestLift.{lift_greatest}
+use Rattle.pr_params.proofs.ParametersHold.{holds_parameters}
+use Rattle.pr_params.proofs.Right.{enclosures_right}
 use Rattle.pr_params.proofs.making.params.Goals as goal
+use Rattle.pr_params.proofs.making.params.Goals.{After-ratio_of}
 
 pub returns-then-m-clause-err : goal.returns-then-m-clause-err
 returns-then-m-clause-err c =
@@ -67,3 +71,12 @@ invariant_of-result c =
       accepted = no_fault case c.requires (record { small = ok.small; large = ok.large }) (rw (← alpha) (omega (arith, ints, c.if-m.false)))
           (rw (← covolume, ← attraction) (omega (arith, ints, fits, ok.low)));
     }
+
+pub returns-clause-right : goal.returns-clause-right
+returns-clause-right c = rw (invariant_of-result (goal.at.returns-clause-right c).After-ratio_of).printed (enclosures_right c.args.case.now)
+
+pub returns-clause-lift : goal.returns-clause-lift
+returns-clause-lift c = rw c.in_ok-lift.ensures.lift (lift_greatest c.args.case.now (invariant_of-result (goal.at.returns-clause-lift c).After-ratio_of).accepted)
+
+pub returns-clause-holds : goal.returns-clause-holds
+returns-clause-holds c = λ x instance. let kept = invariant_of-result (goal.at.returns-clause-holds c).After-ratio_of in rw kept.right (holds_parameters c.args.case.now x kept.accepted (rw kept.printed at instance))

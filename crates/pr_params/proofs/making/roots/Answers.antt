@@ -1,14 +1,14 @@
 use Rattle.std.proofs.Common.{SFits, rules, arith}
-use Rattle.log_laws.proofs.Wide.{back}
+use Rattle.log_laws.proofs.Exports.{back}
 use Rattle.std.specs.Int.{w32}
 use Rattle.std.proofs.lemmas.Int.{to_z-of_z}
 use Rattle.pr_params.specs.One.{root_one}
-use Rattle.pr_params.proofs.Component.{component_one}
+use Rattle.pr_params.proofs.Components.{component_at}
 use Rattle.pr_params.proofs.Made.{alpha_is}
 use Rattle.pr_params.proofs.making.roots.Goals as goal
 
 pub temperature_root-t-requires-clause-tc_low : goal.temperature_root-t-requires-clause-tc_low
-temperature_root-t-requires-clause-tc_low c = let k = component_one c.args.case.now c.requires.one in rw c.requires.tc k.tc_low
+temperature_root-t-requires-clause-tc_low c = let k = component_at c.args.case.now 0 c.args.case.now.some in rw c.requires.tc k.tc_low
 
 pub returns-clause-temperature : goal.returns-clause-temperature
 unfolding root_one

@@ -5,6 +5,7 @@ use Rattle.log_laws.specs.Between.{Ends}
 use Rattle.case_types.specs.Numbers.{numbers_of}
 use Rattle.pr_params.specs.Boxes.{box_of}
 use Rattle.pr_params.proofs.Mean.{range_is, attraction_low_one, ratio_low_is}
+use Rattle.pr_params.proofs.MeansHold.{means_hold}
 use Rattle.pr_params.proofs.ranges.g_lo.Goals as goal
 
 pub ratio_down-requires-clause-ordered : goal.ratio_down-requires-clause-ordered
@@ -21,3 +22,7 @@ returns-clause-value c =
     let is = ratio_low_is (numbers_of case) x _ b low range in
     let read = to_z_pos w128 c.ratio_down.result (omega (arith, c.ratio_down.ensures.high)) in
     rw (is, read, c.ratio_down.ensures.value, c.scaled_down-attraction.ensures.value, c.scaled_down.ensures.value, c.fraction_lo-fraction.ensures.value) refl
+
+pub returns-clause-at_least : goal.returns-clause-at_least
+returns-clause-at_least c = λ i f instance inside some.
+    rw (returns-clause-value c) (means_hold c.args.params.now.case i (box_of c.args.x.now) f c.requires c.args.params.now.accepted instance inside some).ratio_low

@@ -1,6 +1,6 @@
 use Rattle.std.proofs.Common.{rules, ◌≡◌, ◌*◌, ◌^◌, ◌<◌, arith}
 use Rattle.std.proofs.Math.Nat.{mod-eq_of_lt}
-use Rattle.log_laws.proofs.Powers.{pow-mul}
+use Rattle.log_laws.proofs.Exports.{pow-mul}
 use Rattle.root_enclose.proofs.Squares.{scale_small}
 use Rattle.root_enclose.proofs.enclosure.scaled.Goals as goal
 

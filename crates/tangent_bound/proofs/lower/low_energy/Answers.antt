@@ -4,7 +4,7 @@ use Rattle.std.proofs.lemmas.Int.{ints}
 use Rattle.log_laws.specs.Between.{Ends}
 use Rattle.log_laws.specs.Squaring.{log_up}
 use Rattle.log_laws.specs.Whole.{ceil_div}
-use Rattle.log_laws.proofs.Wide.{back}
+use Rattle.log_laws.proofs.Exports.{back}
 use Rattle.case_types.specs.Bounds.{covolume_range, lambda_up, ratio_high, volume_low, energy_low}
 use Rattle.case_types.specs.Divisions.{bits, energy_of}
 use Rattle.log_laws.specs.LogSum.{AtLeast}
@@ -14,7 +14,8 @@ use Rattle.pr_params.proofs.Mean.{count_is}
 use Rattle.pr_params.proofs.Signed.{natural_value, difference_read}
 use Rattle.pr_params.proofs.Sized.{sized_one, each_up_to}
 use Rattle.tangent_bound.proofs.EnergyLow.{energy_at_least}
-use Rattle.tangent_bound.proofs.Held.{holds_parameters, holds_means}
+use Rattle.pr_params.proofs.ParametersHold.{holds_parameters}
+use Rattle.pr_params.proofs.MeansHold.{holds_means}
 use Rattle.tangent_bound.proofs.Terms.{attraction_part, energy_low_is}
 use Rattle.tangent_bound.proofs.lower.low_energy.Goals as goal
 use Rattle.tangent_bound.proofs.lower.low_energy.Goals.{After-pull}

@@ -1,6 +1,6 @@
 use Rattle.std.proofs.Common.{◌∙◌, ◌<◌, ◌^◌, ℤ, unsigned_abs, sym, arith}
 use Rattle.std.proofs.lemmas.Int.{ints}
-use Rattle.log_laws.proofs.Wide.{back}
+use Rattle.log_laws.proofs.Exports.{back}
 use Rattle.case_types.specs.Numbers.{numbers_of}
 use Rattle.log_laws.specs.Squaring.{IsSmall}
 use Rattle.tangent_bound.proofs.Terms.{mixing_none, mixing_some}

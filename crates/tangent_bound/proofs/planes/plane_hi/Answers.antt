@@ -2,7 +2,7 @@ use Rattle.std.proofs.Common.{◌≡◌, ◌∙◌, ℕ, pos, slice_index_or, sy
 use Rattle.std.specs.Int.{w128}
 use Rattle.case_types.specs.declared.planes.Plane.{Plane}
 use Rattle.case_types.specs.Bounds.{Box, plane_high}
-use Rattle.log_laws.proofs.Wide.{back}
+use Rattle.log_laws.proofs.Exports.{back}
 use Rattle.pr_params.specs.Boxes.{box_of}
 use Rattle.tangent_bound.proofs.PlaneBound.{plane_at_most}
 use Rattle.tangent_bound.proofs.PlaneEnds.{plane_one, first_small}

@@ -1,0 +1,79 @@
+-- The energy of a split from those of its phases, at most.
+use Rattle.std.proofs.Common.{ℕ, zero, suc, ◌+◌, ◌-◌, ◌*◌, ◌/◌, ◌^◌, ◌<◌, ◌≤◌, ◌≡◌, refl, sym, List, [], ◌∷◌, map, slice_index, ℤ, pos, negsuc, ◌+ℤ◌, ◌*ℤ◌, ◌≤ℤ◌, arith, lit<}
+use Rattle.std.proofs.lemmas.Int.{ints}
+use Rattle.std.proofs.Math.Nat.{mul-le-mul_right, mul-le-mul_left, div-mul-le_self, lt-div-mul-add}
+use Rattle.std.specs.Int.{int_min, int_max}
+use Rattle.std.proofs.lemmas.Int.{clamps}
+use borrow.Author.Differences.{up, down, le_out, at_most_in, product_is}
+use Rattle.log_laws.specs.Fraction.{Fraction, IsAtMost, product_of, sum_of, whole}
+use Rattle.log_laws.specs.LogSum.{AtMost, ratio, scaled, constant}
+use Rattle.log_laws.specs.Whole.{ceil_quotient, ceil_over}
+use Rattle.log_laws.specs.Sums.{sum_below}
+use Rattle.log_laws.proofs.Exports.{up-mul, down-mul, le-ceil_over, ≤ℤ_trans, mul-le_ℤ, neg-mul, product_pos, heightened, at_most_adds_at, at_most_scales, at_most_raises, constant_at_most, parts_self, at_most_of_parts}
+use Rattle.case_types.specs.Bounds.{share_down, share_up, share_of_energy, phases_up, phase_up}
+use Rattle.case_types.specs.declared.cases.Case.{Case}
+use Rattle.case_types.specs.declared.phases.Phase.{Phase}
+use Rattle.case_types.specs.Divisions.{bits, state_of, moles, energy_of, energy_of_phases}
+use Rattle.case_types.specs.Instances.{Instance}
+use Rattle.case_types.specs.Numbers.{Numbers}
+
+-- n is at most d times its quotient rounded up
+le-ceil_quotient : (n d : ℕ) → 0 < d → n ≤ ceil_quotient n d * d
+le-ceil_quotient n d h = let l = lt-div-mul-add {a = n + (d - 1)} h in omega arith
+
+-- m/Q of u is at most s, where s is at least V times u and v times u over 2^60
+above_zero : (m Q k v V us ds : ℕ) → m * 2 ^ 60 ≤ V * Q → V * k + ds * 2 ^ 60 ≤ us * 2 ^ 60 → m * k * 2 ^ 40 + ds * (Q * 2 ^ 40) ≤ us * (Q * 2 ^ 40)
+above_zero m Q k v V us ds h l =
+    let a = mul-le-mul_right k h in
+    let b = mul-le-mul_right Q l in
+    omega arith
+
+below_zero : (m Q k v us ds : ℕ) → v * Q ≤ m * 2 ^ 60 → ds * 2 ^ 60 ≤ us * 2 ^ 60 + v * k → ds * (Q * 2 ^ 40) ≤ us * (Q * 2 ^ 40) + m * k * 2 ^ 40
+below_zero m Q k v us ds h l =
+    let a = mul-le-mul_right k h in
+    let b = mul-le-mul_right Q l in
+    omega arith
+
+-- the share of an energy is at most the share of it that is printed
+pub share_step : (m Q : ℕ) (u : ℤ) → 0 < Q → IsAtMost (product_of (ratio m Q) (bits u)) (bits (share_of_energy m Q u))
+share_step m Q (pos k) h =
+    shared (share_down (2 ^ 60) m Q) (share_up (2 ^ 60) m Q) (share_of_energy m Q (pos k)) (le-ceil_quotient (m * 2 ^ 60) Q h)
+    (le-ceil_over (int_max (pos (share_down (2 ^ 60) m Q) *ℤ pos k) (pos (share_up (2 ^ 60) m Q) *ℤ pos k)) (2 ^ 60) (lit< tt))
+  where
+    shared : (v V : ℕ) (s : ℤ) → m * 2 ^ 60 ≤ V * Q → int_max (pos v *ℤ pos k) (pos V *ℤ pos k) ≤ℤ (s *ℤ pos (2 ^ 60)) →
+        ((pos m *ℤ pos k) *ℤ pos (2 ^ 40)) ≤ℤ (s *ℤ pos (Q * 2 ^ 40))
+    shared v V s l g =
+        let a : (pos V *ℤ pos k) ≤ℤ (s *ℤ pos (2 ^ 60)) = omega (arith, ints, clamps, g) in
+        let b = le_out (pos V *ℤ pos k) (s *ℤ pos (2 ^ 60)) a in
+        let d : V * k + down s * 2 ^ 60 ≤ up s * 2 ^ 60 = omega (arith, b, product_is s (pos (2 ^ 60))) in
+        at_most_in ((pos m *ℤ pos k) *ℤ pos (2 ^ 40)) (s *ℤ pos (Q * 2 ^ 40))
+        (omega (arith, product_is s (pos (Q * 2 ^ 40)), above_zero m Q k v V (up s) (down s) l d))
+share_step m Q (negsuc k) h =
+    shared (share_down (2 ^ 60) m Q) (share_up (2 ^ 60) m Q) (share_of_energy m Q (negsuc k)) (div-mul-le_self (m * 2 ^ 60) Q)
+    (le-ceil_over (int_max (pos (share_down (2 ^ 60) m Q) *ℤ negsuc k) (pos (share_up (2 ^ 60) m Q) *ℤ negsuc k)) (2 ^ 60) (lit< tt))
+  where
+    shared : (v V : ℕ) (s : ℤ) → v * Q ≤ m * 2 ^ 60 → int_max (pos v *ℤ negsuc k) (pos V *ℤ negsuc k) ≤ℤ (s *ℤ pos (2 ^ 60)) →
+        ((pos m *ℤ negsuc k) *ℤ pos (2 ^ 40)) ≤ℤ (s *ℤ pos (Q * 2 ^ 40))
+    shared v V s l g =
+        let a : (pos v *ℤ negsuc k) ≤ℤ (s *ℤ pos (2 ^ 60)) = omega (arith, ints, clamps, g) in
+        let b = le_out (pos v *ℤ negsuc k) (s *ℤ pos (2 ^ 60)) a in
+        let d : down s * 2 ^ 60 ≤ up s * 2 ^ 60 + v * suc k = omega (arith, b, product_is s (pos (2 ^ 60)), product_is (pos v) (negsuc k)) in
+        at_most_in ((pos m *ℤ negsuc k) *ℤ pos (2 ^ 40)) (s *ℤ pos (Q * 2 ^ 40))
+        (omega (arith, product_is s (pos (Q * 2 ^ 40)), product_is (pos m *ℤ negsuc k) (pos (2 ^ 40)), product_is (pos m) (negsuc k), below_zero m Q (suc k) v (up s) (down s) l d))
+
+-- the energy of each phase is at most its upper energy
+pub AreBelow : Case → Instance → Numbers → List Phase → Type 0
+AreBelow c x p [] = Unit {0}
+AreBelow c x p (f ∷ fs) = AtMost (energy_of c x (state_of f)) (bits (phase_up p f)) × AreBelow c x p fs
+
+pub phases_at_most : (c : Case) (x : Instance) (p : Numbers) (Q : ℕ) (fs : List Phase) → 0 < Q → p.count ≡ c.n → AreBelow c x p fs →
+    AtMost (energy_of_phases c x Q (map state_of fs)) (bits (phases_up p Q fs))
+unfolding energy_of_phases phases_up AreBelow
+phases_at_most c x p Q [] h n a = heightened (constant (whole (pos 0))) (whole (pos 0)) (bits (pos 0)) (parts_self (pos 0) 1 (omega arith)) (parts_self (pos 0) (2 ^ 40) (lit< tt)) (omega arith) (constant_at_most (whole (pos 0)) (omega arith))
+phases_at_most c x p Q (f ∷ fs) h n a =
+    at_most_adds_at (scaled (ratio (moles c.n (state_of f)) Q) (energy_of c x (state_of f))) (energy_of_phases c x Q (map state_of fs))
+    (share_of_energy (sum_below p.count (slice_index f.parts)) Q (phase_up p f)) (phases_up p Q fs) (2 ^ 40) (lit< tt)
+    (rw n (at_most_raises (scaled (ratio (moles c.n (state_of f)) Q) (energy_of c x (state_of f))) (product_of (ratio (moles c.n (state_of f)) Q) (bits (phase_up p f)))
+    (bits (share_of_energy (moles c.n (state_of f)) Q (phase_up p f))) (lit< tt) (share_step (moles c.n (state_of f)) Q (phase_up p f) h)
+    (at_most_scales (ratio (moles c.n (state_of f)) Q) (energy_of c x (state_of f)) (bits (phase_up p f)) h (omega (arith, ints)) a.0)))
+    (phases_at_most c x p Q fs h n a.1)

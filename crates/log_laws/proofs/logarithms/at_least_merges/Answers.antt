@@ -1,0 +1,5 @@
+use Rattle.log_laws.proofs.Arguments.{at_least_merges}
+use Rattle.log_laws.proofs.logarithms.at_least_merges.Goals as goal
+
+pub returns : goal.returns
+returns c = at_least_merges

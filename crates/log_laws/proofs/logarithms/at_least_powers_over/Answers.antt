@@ -1,0 +1,5 @@
+use Rattle.log_laws.proofs.Opposite.{at_least_powers_over}
+use Rattle.log_laws.proofs.logarithms.at_least_powers_over.Goals as goal
+
+pub returns : goal.returns
+returns c = at_least_powers_over

@@ -1,0 +1,5 @@
+use Rattle.log_laws.proofs.Opposite.{at_most_powers}
+use Rattle.log_laws.proofs.logarithms.at_most_powers.Goals as goal
+
+pub returns : goal.returns
+returns c = at_most_powers

@@ -1,0 +1,46 @@
+-- The ranges of each component of a case, and of each pair.
+use Rattle.std.proofs.Common.{ℕ, ◌*◌, ◌<◌, Bool, pos, neg_ℤ, ◌≤ℤ◌, ◌&&◌, arith}
+use Rattle.std.specs.Prelude.{int_le}
+use Rattle.std.proofs.Math.Nat.{mul-le-mul}
+use Rattle.case_types.specs.declared.cases.Case.{Case}
+use Rattle.case_types.specs.CaseWords.{critical_temperature, critical_pressure, acentric_factor, interaction}
+use Rattle.case_types.specs.Ranges.{entry, is_interaction, is_critical_temperature, is_critical_pressure, is_acentric_factor}
+use Rattle.log_laws.specs.Sums.{all_below}
+use Rattle.pr_params.proofs.Below.{all_below_at}
+use Rattle.pr_params.proofs.Component.{and_true, at_most, int_at_most, IsComponent}
+
+-- the ranges of the component hold
+pub component_at : (c : Case) (i : ℕ) → i < c.n → IsComponent (critical_temperature c i) (critical_pressure c i) (acentric_factor c i)
+component_at c i h =
+    let tc = and_true _ _ (all_below_at c.n (λ i. is_critical_temperature (critical_temperature c i)) i h c.tc_range) in
+    let pc = and_true _ _ (all_below_at c.n (λ i. is_critical_pressure (critical_pressure c i)) i h c.pc_range) in
+    let w = and_true _ _ (all_below_at c.n (λ i. is_acentric_factor (acentric_factor c i)) i h c.w_range) in
+    record {
+      tc_low = at_most _ _ tc.0;
+      tc_high = at_most _ _ tc.1;
+      pc_low = at_most _ _ pc.0;
+      pc_high = at_most _ _ pc.1;
+      w_low = int_at_most _ _ w.0;
+      w_high = int_at_most _ _ w.1;
+    }
+
+-- an interaction is at most 0.5
+pub interaction_at_most : (c : Case) (i j : ℕ) → i < c.n → j < c.n → interaction c i j ≤ℤ pos 5000
+interaction_at_most c i j h g =
+    let k = c.k in
+    let few = c.few in
+    let h' : i < 4 = omega (arith, h, few) in
+    let g' : j < 4 = omega (arith, g, few) in
+    let place : ℕ → ℕ → Bool = λ i j. is_interaction (entry k i j) && int_le (entry k i j) (entry k j i) in
+    let rows = (and_true (all_below 4 (λ i. all_below 4 (λ j. place i j))) (all_below 4 (λ i. int_le (entry k i i) (pos 0) && int_le (pos 0) (entry k i i))) c.interactions).0 in
+    let row = all_below_at 4 (λ i. all_below 4 (λ j. place i j)) i h' rows in
+    let pair = all_below_at 4 (λ j. place i j) j g' row in
+    let range = (and_true (is_interaction (entry k i j)) (int_le (entry k i j) (entry k j i)) pair).0 in
+    int_at_most (entry k i j) (pos 5000) (and_true (int_le (neg_ℤ (pos 5000)) (entry k i j)) (int_le (entry k i j) (pos 5000)) range).1
+
+-- the denominator of its co-volume is positive
+pub den_positive_at : (c : Case) (i : ℕ) → i < c.n → 0 < 5000 * critical_pressure c i * c.t
+den_positive_at c i h =
+    let k = component_at c i h in
+    let p = mul-le-mul k.pc_low c.t_low in
+    omega (arith, p)
