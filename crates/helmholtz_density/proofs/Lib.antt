@@ -3,3 +3,5 @@ pub mod Energy
 pub mod MixingHigh
 pub mod EnergyHigh
 pub mod Shares
+pub mod Weighed
+pub mod Parts

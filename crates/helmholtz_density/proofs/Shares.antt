@@ -1,5 +1,5 @@
 -- The energy of a split from those of its phases, at most.
-use Rattle.std.proofs.Common.{ℕ, zero, suc, ◌+◌, ◌-◌, ◌*◌, ◌/◌, ◌^◌, ◌<◌, ◌≤◌, ◌≡◌, refl, sym, List, [], ◌∷◌, map, slice_index, ℤ, pos, negsuc, ◌+ℤ◌, ◌*ℤ◌, ◌≤ℤ◌, arith, lit<}
+use Rattle.std.proofs.Common.{ℕ, zero, suc, ◌+◌, ◌-◌, ◌*◌, ◌/◌, ◌^◌, ◌<◌, ◌≤◌, ◌≡◌, sym, ap, subst, List, [], ◌∷◌, map, slice_index, ℤ, pos, negsuc, ◌+ℤ◌, ◌*ℤ◌, ◌≤ℤ◌, arith, lit<}
 use Rattle.std.proofs.lemmas.Int.{ints}
 use Rattle.std.proofs.Math.Nat.{mul-le-mul_right, mul-le-mul_left, div-mul-le_self, lt-div-mul-add}
 use Rattle.std.specs.Int.{int_min, int_max}
@@ -73,7 +73,9 @@ phases_at_most c x p Q [] h n a = heightened (constant (whole (pos 0))) (whole (
 phases_at_most c x p Q (f ∷ fs) h n a =
     at_most_adds_at (scaled (ratio (moles c.n (state_of f)) Q) (energy_of c x (state_of f))) (energy_of_phases c x Q (map state_of fs))
     (share_of_energy (sum_below p.count (slice_index f.parts)) Q (phase_up p f)) (phases_up p Q fs) (2 ^ 40) (lit< tt)
-    (rw n (at_most_raises (scaled (ratio (moles c.n (state_of f)) Q) (energy_of c x (state_of f))) (product_of (ratio (moles c.n (state_of f)) Q) (bits (phase_up p f)))
+    (subst (λ (m : ℕ). AtMost (scaled (ratio (moles c.n (state_of f)) Q) (energy_of c x (state_of f))) (bits (share_of_energy m Q (phase_up p f))))
+    (ap (λ (k : ℕ). sum_below k (slice_index f.parts)) (sym n))
+    (at_most_raises (scaled (ratio (moles c.n (state_of f)) Q) (energy_of c x (state_of f))) (product_of (ratio (moles c.n (state_of f)) Q) (bits (phase_up p f)))
     (bits (share_of_energy (moles c.n (state_of f)) Q (phase_up p f))) (lit< tt) (share_step (moles c.n (state_of f)) Q (phase_up p f) h)
     (at_most_scales (ratio (moles c.n (state_of f)) Q) (energy_of c x (state_of f)) (bits (phase_up p f)) h (omega (arith, ints)) a.0)))
     (phases_at_most c x p Q fs h n a.1)

@@ -3,6 +3,8 @@
 
 mod pulls;
 mod pushes;
+mod splits;
 mod upper;
 
+pub use splits::{phase_box, split_energy};
 pub use upper::energy_up;

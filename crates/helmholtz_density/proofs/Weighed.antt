@@ -1,0 +1,58 @@
+-- A share of an energy, and the box of a phase of one component, as the code computes them.
+use Rattle.std.proofs.Common.{ℕ, zero, suc, ◌+◌, ◌-◌, ◌*◌, ◌/◌, ◌^◌, ◌<◌, ◌≤◌, ◌≡◌, refl, sym, ap, ap₂, List, [], ◌∷◌, ℤ, pos, negsuc, neg_ℤ, ◌+ℤ◌, ◌*ℤ◌, ◌≤ℤ◌, ◌<ℤ◌, slice_index, arith, lit<}
+use Rattle.std.proofs.lemmas.Int.{ints, clamps}
+use Rattle.std.proofs.Math.Nat.{mul-le-mul_right, mul-div_cancel_left, div-mul-le_self, lt-div-mul-add}
+use Rattle.std.proofs.lemmas.Nat.{div-mul-add}
+use Rattle.std.specs.Int.{int_max}
+use borrow.Author.Differences.{product_is}
+use Rattle.log_laws.specs.Sums.{sum_below, list_below}
+use Rattle.log_laws.specs.Whole.{ceil_quotient, ceil_div, floor_div, ceil_over, floor_over}
+use Rattle.log_laws.proofs.Exports.{le-ceil_over, lt-floor_over, floor_over-le, mul-add_ℤ, add-mul_ℤ, mul_assoc_ℤ}
+use Rattle.case_types.specs.Bounds.{Box, one, box_of_parts, share_down, share_up}
+
+-- ---- the box of one component is that of its pure composition
+whole_share : (k : ℕ) → 1 ≤ k → k * one / (0 + k) ≡ one
+whole_share k h = let e : 0 + k ≡ k = omega arith in rw e (mul-div_cancel_left one h)
+
+whole_ceiling : (k : ℕ) → 1 ≤ k → ceil_quotient (k * one) (0 + k) ≡ one
+whole_ceiling k h = let e : 0 + k ≡ k = omega arith in let f : k * one + (k - 1) ≡ one * k + (k - 1) = omega arith in rw (e, f) (div-mul-add one k (k - 1) (omega arith))
+
+pub one_box : (n : ℕ) (parts : List ℕ) → n ≡ 1 → 1 ≤ sum_below n (slice_index parts) →
+    (let ends : List ℕ = 2 ^ 40 ∷ 0 ∷ 0 ∷ 0 ∷ [] in let b : Box = record { lo = ends; hi = ends } in b) ≡ box_of_parts n parts
+unfolding list_below
+one_box n parts e h =
+    rw e (let some : 1 ≤ slice_index parts 0 = (let l = rw e at h in omega (arith, l)) in
+    rw (whole_share (slice_index parts 0) some, whole_ceiling (slice_index parts 0) some) refl)
+
+-- ---- the greater of two shares of an energy
+pub share_above_zero : (v V : ℕ) (u : ℤ) → v ≤ V → pos 0 ≤ℤ u → int_max (pos v *ℤ u) (pos V *ℤ u) ≡ pos V *ℤ u
+share_above_zero v V (pos k) h l = omega (arith, ints, clamps, mul-le-mul_right k h)
+share_above_zero v V (negsuc k) h l = absurd (omega (arith, ints))
+
+pub share_below_zero : (v V : ℕ) (u : ℤ) → v ≤ V → u <ℤ pos 0 → int_max (pos v *ℤ u) (pos V *ℤ u) ≡ pos v *ℤ u
+share_below_zero v V (pos k) h l = absurd (omega (arith, ints))
+share_below_zero v V (negsuc k) h l =
+    omega (arith, ints, clamps, product_is (pos v) (negsuc k), product_is (pos V) (negsuc k), mul-le-mul_right (suc k) h)
+
+-- ---- a share of an energy from its whole part and what is left
+-- a ceiling is the one whole number so far above
+ceiling_is : (z k : ℤ) → z ≤ℤ (k *ℤ pos (2 ^ 60)) → (k *ℤ pos (2 ^ 60)) <ℤ (z +ℤ pos (2 ^ 60)) → k ≡ ceil_over z (2 ^ 60)
+ceiling_is z k h l =
+    let f = floor_over-le (neg_ℤ z) (2 ^ 60) (lit< tt) in
+    let g = lt-floor_over (neg_ℤ z) (2 ^ 60) (lit< tt) in
+    between z k (floor_over (neg_ℤ z) (2 ^ 60)) h l f g
+  where
+    between : (z k f : ℤ) → z ≤ℤ (k *ℤ pos (2 ^ 60)) → (k *ℤ pos (2 ^ 60)) <ℤ (z +ℤ pos (2 ^ 60)) →
+        (f *ℤ pos (2 ^ 60)) ≤ℤ neg_ℤ z → neg_ℤ z <ℤ (f *ℤ pos (2 ^ 60) +ℤ pos (2 ^ 60)) → k ≡ neg_ℤ f
+    between z k f h l a b = omega (arith, ints)
+
+pub share_is : (s r : ℕ) (e w : ℤ) → pos r +ℤ w *ℤ pos (2 ^ 60) ≡ e → pos s *ℤ w +ℤ pos (ceil_quotient (s * r) (2 ^ 60)) ≡ ceil_over (pos s *ℤ e) (2 ^ 60)
+share_is s r e w h =
+    rw (← h, mul-add_ℤ (pos s) (pos r) (w *ℤ pos (2 ^ 60)), ← mul_assoc_ℤ (pos s) w (pos (2 ^ 60)))
+    (let low : s * r ≤ ceil_quotient (s * r) (2 ^ 60) * 2 ^ 60 = (let l = lt-div-mul-add {a = s * r + (2 ^ 60 - 1)} {b = 2 ^ 60} (lit< tt) in omega (arith, l)) in
+    let high : ceil_quotient (s * r) (2 ^ 60) * 2 ^ 60 < s * r + 2 ^ 60 = (let l = div-mul-le_self (s * r + (2 ^ 60 - 1)) (2 ^ 60) in omega (arith, l)) in
+    joined (pos s *ℤ w) (s * r) (ceil_quotient (s * r) (2 ^ 60)) low high)
+  where
+    joined : (t : ℤ) (n q : ℕ) → n ≤ q * 2 ^ 60 → q * 2 ^ 60 < n + 2 ^ 60 → t +ℤ pos q ≡ ceil_over (pos n +ℤ t *ℤ pos (2 ^ 60)) (2 ^ 60)
+    joined t n q low high =
+        ceiling_is (pos n +ℤ t *ℤ pos (2 ^ 60)) (t +ℤ pos q) (omega (arith, ints, add-mul_ℤ t (pos q) (pos (2 ^ 60)))) (omega (arith, ints, add-mul_ℤ t (pos q) (pos (2 ^ 60))))
