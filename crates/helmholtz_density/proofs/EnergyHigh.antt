@@ -19,16 +19,14 @@ use Rattle.case_types.specs.Instances.{Instance}
 use Rattle.case_types.specs.Numbers.{Numbers}
 use Rattle.log_laws.specs.Sums.{int_sum_below}
 use Rattle.pr_params.specs.Packings.{IsPacking}
+use Rattle.pr_params.proofs.Attracted.{le-ceiling}
 use Rattle.pr_params.proofs.Argument.{positive_between}
 use Rattle.pr_params.proofs.Lambda.{two_ends, respelled, lambda_least, log_not_negative, argument_positive}
 use Rattle.pr_params.proofs.Pull.{by_natural, pull_most}
-use Rattle.pr_params.proofs.Sized.{e_ends, IsSized, ends_ordered, between_apart, covolume_positive, mean_attraction_is_fraction}
+use Rattle.pr_params.proofs.Sized.{e_ends, scale_split, IsSized, ends_ordered, between_apart, covolume_positive, mean_attraction_is_fraction}
 use Rattle.helmholtz_density.proofs.MixingHigh.{mixing_most}
 
 -- ---- the volume term
-scale_split : (l : ℕ) → 2 ^ (56 + l) ≡ 2 ^ 40 * 2 ^ (16 + l)
-scale_split l = let k : 56 + l ≡ 40 + (16 + l) = omega arith in ap (λ (x : ℕ). 2 ^ x) k ∙ pow-add 2 40 (16 + l)
-
 -- log2e B / y for a packing of Y units
 share_order : (cn cd ch bn bd h s Y Q : ℕ) → 0 < s → cn * 2 ^ 40 ≤ ch * cd → bn * (2 ^ 40 * s) ≤ h * bd → ch * h ≤ Q * (Y * s) →
     cn * bn * 2 ^ 40 * 2 ^ 40 ≤ Q * (cd * bd * Y)
@@ -37,9 +35,6 @@ share_order cn cd ch bn bd h s Y Q some hc hb hq =
     let q : ch * h * (cd * bd) ≤ Q * (Y * s) * (cd * bd) = mul-le-mul_right (cd * bd) hq in
     let l : (cn * bn * 2 ^ 40 * 2 ^ 40) * s ≤ (Q * (cd * bd * Y)) * s = omega arith in
     le_of_mul-le-mul_right l some
-
-quotient_above : (n d : ℕ) → 0 < d → n ≤ ceil_quotient n d * d
-quotient_above n d h = omega arith
 
 share_at : (cn cd bn bd Y Q : ℕ) → 0 < cd → 0 < bd → 0 < Y → cn * bn * 2 ^ 40 * 2 ^ 40 ≤ Q * (cd * bd * Y) →
     AtMost (constant (ratio (cn * bn * 2 ^ 40) (cd * bd * Y))) (bits (pos Q))
@@ -71,7 +66,7 @@ volume_most p c b Y v e some within high pb hold_c hold_b =
     let some' = product_pos Y s some ps in
     rw (ceil_over-pos (1586260020565 * h) (Y * s) some')
     (share_at cn cd bn bd Y (ceil_quotient (1586260020565 * h) (Y * s)) pcd pbd some
-    (share_order cn cd 1586260020565 bn bd h s Y (ceil_quotient (1586260020565 * h) (Y * s)) ps oc (rw split at ob) (quotient_above (1586260020565 * h) (Y * s) some')))) hold_b)
+    (share_order cn cd 1586260020565 bn bd h s Y (ceil_quotient (1586260020565 * h) (Y * s)) ps oc (rw split at ob) (le-ceiling (1586260020565 * h) (Y * s) some')))) hold_b)
     (rw e at hold_c)) (between_apart v (2 ^ (56 + p.lift)) b hold_b)))
   where
     s : ℕ

@@ -10,8 +10,7 @@ use Rattle.log_laws.specs.LogSum.{LogSum, AtLeast, AtMost, times_log, ratio, sca
 use Rattle.log_laws.specs.Squaring.{up as digits_up, log_up}
 use Rattle.log_laws.specs.Whole.{ceil_div}
 use Rattle.log_laws.proofs.Exports.{at_most_is_opposite, parts_self, parts_ratio, parts_product, product_pos, le-ceil_over, at_least_scales, one, lowered, minus_log, at_most_adds_at, at_most_raises, constant_at_most}
-use Rattle.log_enclose.proofs.Exports.{log_up_at_most}
-use Rattle.log_enclose.proofs.Bounds.{log_up_power_high}
+use Rattle.log_enclose.proofs.Exports.{log_up_at_most, log_up_power_high}
 use Rattle.case_types.specs.Bounds.{Box, mixing_up}
 use Rattle.case_types.specs.Divisions.{State, moles, bits, mixing_of, mixing, minus_log_of}
 use Rattle.case_types.specs.Holding.{IsInBox}

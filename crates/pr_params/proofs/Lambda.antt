@@ -18,6 +18,7 @@ use Rattle.case_types.specs.Instances.{Instance, IsInstance}
 use Rattle.case_types.specs.Numbers.{Numbers, numbers_of, enclosures_of}
 use Rattle.pr_params.proofs.Accepted.{two_exact}
 use Rattle.pr_params.specs.Packings.{IsPacking}
+use Rattle.pr_params.proofs.Attracted.{le-ceiling}
 use Rattle.pr_params.proofs.Argument.{IsRoot, IsShare, room, by_quotients, argument_parts}
 
 -- the ends of the root of 2
@@ -141,9 +142,6 @@ to_order Y yn yd h l = order_of_ratios yn yd Y (2 ^ 40) h (lit< tt) l
 floor_below : (n : ℕ) → n / 2 ^ 60 * 2 ^ 60 ≤ n
 floor_below n = omega arith
 
-ceiling_above : (n : ℕ) → n ≤ ceil_quotient n (2 ^ 60) * 2 ^ 60
-ceiling_above n = omega arith
-
 ceiling_near : (n : ℕ) → ceil_quotient n (2 ^ 60) * 2 ^ 60 < n + 2 ^ 60
 ceiling_near n = omega arith
 
@@ -184,7 +182,7 @@ module _ (p : Numbers) (s y : Fraction) (two : p.root_two ≡ two_ends) (between
       let n = 1630477228166597777 * Y in
       subst (λ (z : ℤ). AtLeast (minus_log_of (attraction_argument (ratio sn sd) (ratio yn yd))) (bits z)) (minus_lambda_is p Y two)
       (minus_log_at sn sd yn yd Rd root share pos_rd is Y (ceil_quotient n (2 ^ 60)) within
-      (to_order Y yn yd (let q = share.below in omega arith) below) (ceiling_above n) (ceiling_near n))) below
+      (to_order Y yn yd (let q = share.below in omega arith) below) (le-ceiling n (2 ^ 60) (lit< tt)) (ceiling_near n))) below
 
   pub lambda_most : (Y : ℕ) → Y ≤ 2 ^ 40 → IsAtMost y (ratio Y (2 ^ 40)) → AtMost (log_of (attraction_argument s y)) (bits (lambda_up p Y))
   lambda_most Y within below = (at_most_is_opposite (log_of (attraction_argument s y)) (bits (lambda_up p Y))).1 (minus_lambda_least Y within below)

@@ -1,8 +1,9 @@
 -- How large the numbers of a case are over a box: what the bounds of energies need to know.
-use Rattle.std.proofs.Common.{ℕ, zero, suc, ◌+◌, ◌*◌, ◌^◌, ◌<◌, ◌≤◌, ◌≡◌, Bool, true, false, ◌&&◌, nat_le, IsTrue, refl, sym, subst, arith, lit<, inl, inr, None, List, ℤ, pos, ◌*ℤ◌, ◌≤ℤ◌, slice_index}
+use Rattle.std.proofs.Common.{ℕ, zero, suc, ◌+◌, ◌*◌, ◌^◌, ◌<◌, ◌≤◌, ◌≡◌, Bool, true, false, ◌&&◌, nat_le, IsTrue, refl, sym, subst, ap, ◌∙◌, arith, lit<, inl, inr, None, List, ℤ, pos, ◌*ℤ◌, ◌≤ℤ◌, slice_index}
 use Rattle.std.proofs.Math.Nat.{le_of_mul-le-mul_right}
 use Rattle.std.proofs.lemmas.Bool.{cases_lt}
 use Rattle.std.proofs.lemmas.Int.{ints}
+use Rattle.std.proofs.lemmas.Nat.{pow-add}
 use borrow.Author.Differences.{le_out, at_most_in, product_is}
 use Rattle.log_laws.specs.Between.{Ends, IsBetween}
 use Rattle.log_laws.specs.Fraction.{Fraction, IsFraction, product_of}
@@ -19,6 +20,7 @@ use Rattle.case_types.specs.Instances.{Instance}
 use Rattle.case_types.specs.Parameters.{attraction}
 use Rattle.log_laws.specs.Sums.{all_below, fraction_sum_below}
 use Rattle.pr_params.proofs.Argument.{positive_between}
+use Rattle.pr_params.proofs.Below.{all_below_at}
 use Rattle.pr_params.proofs.Pull.{by_natural}
 use Rattle.pr_params.proofs.Accepted.{two_exact, e_exact, lift_small, covolume_sizes}
 use Rattle.pr_params.proofs.Lambda.{two_ends}
@@ -39,7 +41,7 @@ pub record IsSized (n : ℕ) (p : Numbers) (box : Box) : Type 0 where
   pub fractions : (i : ℕ) → i < n → slice_index box.hi i ≤ 2 ^ 40
 
 -- the numbers count the components of their case
-count_of : (c : Case) → (numbers_of c).count ≡ c.n
+pub count_of : (c : Case) → (numbers_of c).count ≡ c.n
 unfolding numbers_of
 count_of c = refl
 
@@ -57,22 +59,14 @@ sized_one c box h e small =
       fractions = small;
     }
 
--- ---- fractions
--- what holds below n holds at i
-all_at : (n : ℕ) (p : ℕ → Bool) → IsTrue (all_below n p) → (i : ℕ) → i < n → IsTrue (p i)
-all_at zero p h i l = absurd (omega (arith, l))
-all_at (suc n) p h i l = let q = both (all_below n p) (p n) h in elim (cases_lt i n) [
-  | inl less ↦ all_at n p q.0 i less
-  | inr last ↦ let e : i ≡ n = omega (arith, l, last) in rw e q.1
-]
-  where
-    both : (a b : Bool) → IsTrue (a && b) → IsTrue a × IsTrue b
-    both true b h = (refl, h)
-    both false b h = absurd (cc h)
+-- ---- scales and fractions
+-- the scale of the covolume over that of the packings
+pub scale_split : (l : ℕ) → 2 ^ (56 + l) ≡ 2 ^ 40 * 2 ^ (16 + l)
+scale_split l = let k : 56 + l ≡ 40 + (16 + l) = omega arith in ap (λ (x : ℕ). 2 ^ x) k ∙ pow-add 2 40 (16 + l)
 
 -- each entry is at most the limit
 pub each_up_to : (n : ℕ) (xs : List ℕ) (limit : ℕ) → IsTrue (is_each_up_to n xs limit) → (i : ℕ) → i < n → slice_index xs i ≤ limit
-each_up_to n xs limit h i l = at_most (slice_index xs i) limit (all_at n (λ i. nat_le (slice_index xs i) limit) h i l)
+each_up_to n xs limit h i l = at_most (slice_index xs i) limit (all_below_at n (λ i. nat_le (slice_index xs i) limit) i l h)
   where
     at_most : (a b : ℕ) → IsTrue (nat_le a b) → a ≤ b
     at_most a b h = grind (arith, h)

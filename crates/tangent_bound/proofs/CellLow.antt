@@ -5,7 +5,7 @@ use Rattle.std.proofs.lemmas.Bool.{cases_lt}
 use Rattle.std.proofs.lemmas.Int.{ints}
 use borrow.Author.Differences.{product_is, le_out, at_most_in}
 use Rattle.log_laws.specs.LogSum.{LogSum, AtLeast}
-use Rattle.log_laws.proofs.Exports.{product_pos, mul-le_ℤ, add-mul_ℤ, neg-mul, scale_scale, at_least_lowers}
+use Rattle.log_laws.proofs.Exports.{sum_below-scaled, product_pos, mul-le_ℤ, add-mul_ℤ, neg-mul, scale_scale, at_least_lowers}
 use Rattle.case_types.specs.declared.cases.Case.{Case}
 use Rattle.case_types.specs.Bounds.{Box, one, energy_low, plane_high, ratio_high}
 use Rattle.case_types.specs.Cells.{Region, box_of_region, free_sum, plain_low, IsWithin}
@@ -15,6 +15,7 @@ use Rattle.case_types.specs.Instances.{Instance}
 use Rattle.case_types.specs.Numbers.{Numbers}
 use Rattle.log_laws.specs.Sums.{sum_below, list_below}
 use Rattle.case_types.specs.Weighing.{plane_sum, IsAbovePlane}
+use Rattle.pr_params.proofs.Below.{get_or-list_below}
 use Rattle.pr_params.proofs.Sized.{IsSized}
 use Rattle.tangent_bound.proofs.EnergyLow.{energy_at_least}
 use Rattle.tangent_bound.proofs.PlaneBound.{plane_at_most}
@@ -32,15 +33,6 @@ above_plane s energy plane z m h l x =
     below = rw (add-mul_ℤ energy (neg_ℤ plane) (pos m), neg-mul plane (pos m)) (omega (arith, ints, l))
 
 -- ---- a state of a cell is a state of its box
--- an entry of a list of four
-list_at : (g : ℕ → ℕ) (i : ℕ) → i < 4 → slice_index (list_below 4 g) i ≡ g i
-unfolding list_below
-list_at g zero h = refl
-list_at g (suc zero) h = refl
-list_at g (suc (suc zero)) h = refl
-list_at g (suc (suc (suc zero))) h = refl
-list_at g (suc (suc (suc (suc i)))) h = absurd (omega (arith, h))
-
 -- the fraction of the component i from the ends of the free ones
 abbrev fraction : ℕ → List ℕ → ℕ → ℕ → ℕ
 fraction n ends rest i = cond (nat_lt i (n - 1)) (slice_index ends i * 2 ^ 20) (cond (i == n - 1) rest 0)
@@ -59,15 +51,6 @@ last_fraction n ends rest i e = rw (is_false i (n - 1) e, is_true i (n - 1) e) r
 
     is_true : (a b : ℕ) → a ≡ b → (a == b) ≡ true
     is_true a b e = grind (arith, e)
-
--- sums of ends and of parts, in 2 ^ -20
-sums_above : (k : ℕ) (lo : List ℕ) (p : ℕ → ℕ) (m : ℕ) → ((i : ℕ) → i < k → slice_index lo i * m ≤ p i * 2 ^ 20) → sum_below k (slice_index lo) * m ≤ sum_below k p * 2 ^ 20
-sums_above zero lo p m h = omega arith
-sums_above (suc k) lo p m h = let q = sums_above k lo p m (λ i l. h i (omega (arith, l))) in let r = h k (omega arith) in omega (arith, q, r)
-
-sums_below : (k : ℕ) (hi : List ℕ) (p : ℕ → ℕ) (m : ℕ) → ((i : ℕ) → i < k → p i * 2 ^ 20 ≤ slice_index hi i * m) → sum_below k p * 2 ^ 20 ≤ sum_below k (slice_index hi) * m
-sums_below zero hi p m h = omega arith
-sums_below (suc k) hi p m h = let q = sums_below k hi p m (λ i l. h i (omega (arith, l))) in let r = h k (omega arith) in omega (arith, q, r)
 
 -- the last fraction, from the sum s of the free ends and the sum q of the free parts
 last_above : (s q p m : ℕ) → q + p ≡ m → q * 2 ^ 20 ≤ s * m → (2 ^ 40 - s * 2 ^ 20) * m ≤ p * 2 ^ 40
@@ -99,23 +82,23 @@ in_box n r f small some within = record { above = above; below = below }
     above : (i : ℕ) → i < n → slice_index (box_of_region n r).lo i * moles n f ≤ f.parts i * one
     above i h =
         let rest = one - free_sum n r.hi * 2 ^ 20 in
-        rw (list_at (fraction n r.lo rest) i (omega (arith, h, small)))
+        rw (get_or-list_below 4 (fraction n r.lo rest) 0 i (omega (arith, h, small)))
         (elim (cases_lt i (n - 1)) [
           | inl l ↦ rw (free_fraction n r.lo rest i l) (let q = within.above i l in omega (arith, q))
           | inr l ↦ let e : i ≡ n - 1 = omega (arith, h, l) in
               rw (last_fraction n r.lo rest i e)
-              (last_above (free_sum n r.hi) (sum_below (n - 1) f.parts) (f.parts i) (moles n f) (parts_split n f.parts i h e) (sums_below (n - 1) r.hi f.parts (moles n f) within.below))
+              (last_above (free_sum n r.hi) (sum_below (n - 1) f.parts) (f.parts i) (moles n f) (parts_split n f.parts i h e) (sum_below-scaled (n - 1) f.parts (slice_index r.hi) (2 ^ 20) (moles n f) within.below))
         ])
 
     below : (i : ℕ) → i < n → f.parts i * one ≤ slice_index (box_of_region n r).hi i * moles n f
     below i h =
         let rest = one - free_sum n r.lo * 2 ^ 20 in
-        rw (list_at (fraction n r.hi rest) i (omega (arith, h, small)))
+        rw (get_or-list_below 4 (fraction n r.hi rest) 0 i (omega (arith, h, small)))
         (elim (cases_lt i (n - 1)) [
           | inl l ↦ rw (free_fraction n r.hi rest i l) (let q = within.below i l in omega (arith, q))
           | inr l ↦ let e : i ≡ n - 1 = omega (arith, h, l) in
               rw (last_fraction n r.hi rest i e)
-              (last_below (free_sum n r.lo) (sum_below (n - 1) f.parts) (f.parts i) (moles n f) some (parts_split n f.parts i h e) (sums_above (n - 1) r.lo f.parts (moles n f) within.above))
+              (last_below (free_sum n r.lo) (sum_below (n - 1) f.parts) (f.parts i) (moles n f) some (parts_split n f.parts i h e) (sum_below-scaled (n - 1) (slice_index r.lo) f.parts (moles n f) (2 ^ 20) within.above))
         ])
 
 -- ---- the low of a cell

@@ -9,13 +9,13 @@ use Rattle.log_laws.specs.Fraction.{whole, difference, product_of}
 use Rattle.log_laws.specs.LogSum.{LogSum, AtLeast, times_log, ratio, scaled, constant}
 use Rattle.log_laws.specs.Squaring.{log_down}
 use Rattle.log_laws.specs.Whole.{floor_div}
-use Rattle.log_laws.proofs.Exports.{at_least_scales, log_of_one_more, IsParts, parts_self, parts_ratio, parts_one, parts_sum, parts_product, parts_negated, parts_respelled, same_of_parts, product_pos, floor_over-le, mul-le_ℤ, ≤ℤ_trans, one, over_den, lowered, constant_at_least, at_least-same, IsSameSum, at_least_adds_at}
+use Rattle.log_laws.proofs.Exports.{at_least_scales, log_of_one_more, IsParts, parts_self, parts_ratio, parts_one, parts_sum, parts_product, parts_negated, parts_respelled, same_of_parts, product_pos, floor_over-le, mul-le_ℤ, ≤ℤ_trans, one, over_den, lowered, constant_at_least, at_least-same, IsSameSum, at_least_sums}
 use Rattle.log_enclose.proofs.Exports.{log_down_at_least}
 use Rattle.case_types.specs.Bounds.{Box, mixing_low}
 use Rattle.case_types.specs.Divisions.{State, moles, bits, mixing_of, mixing}
 use Rattle.case_types.specs.Holding.{IsInBox}
 use Rattle.case_types.specs.Numbers.{Numbers}
-use Rattle.log_laws.specs.Sums.{int_sum_below, log_sum_below}
+use Rattle.log_laws.specs.Sums.{int_sum_below}
 use Rattle.pr_params.proofs.Sized.{e_ends}
 use Rattle.tangent_bound.proofs.Tangents.{IsRight, below}
 use Rattle.tangent_bound.proofs.Terms.{mixing_none, mixing_some}
@@ -192,16 +192,9 @@ mixing_of_least p m (suc n) a b e h lo hi small =
         (omega (arith, small, s)) (under_least p a w e (rw s (some b hi))))
 
 -- ---- over all components
--- a sum of log sums is at least the sum of their bounds
-log_sum_least : (n : ℕ) (s : ℕ → LogSum) (z : ℕ → ℤ) → ((i : ℕ) → i < n → AtLeast (s i) (bits (z i))) → AtLeast (log_sum_below n s) (bits (int_sum_below n z))
-unfolding log_sum_below int_sum_below
-log_sum_least zero s z h = nothing_least (pos 0) (omega (arith, ints))
-log_sum_least (suc n) s z h =
-    at_least_adds_at (log_sum_below n s) (s n) (int_sum_below n z) (z n) (2 ^ 40) (lit< tt) (log_sum_least n s z (λ i l. h i (omega (arith, l)))) (h n (omega arith))
-
 pub mixing_least : (p : Numbers) (n : ℕ) (box : Box) (f : State) → p.log_e ≡ e_ends → 0 < moles n f → IsInBox n box f →
     ((i : ℕ) → i < n → slice_index box.hi i ≤ 2 ^ 40) →
     AtLeast (mixing n f) (bits (int_sum_below n (λ i. mixing_low p (slice_index box.lo i) (slice_index box.hi i))))
 mixing_least p n box f e some inside small =
-    log_sum_least n (λ i. mixing_of (f.parts i) (moles n f)) (λ i. mixing_low p (slice_index box.lo i) (slice_index box.hi i))
+    at_least_sums n (λ i. mixing_of (f.parts i) (moles n f)) (λ i. mixing_low p (slice_index box.lo i) (slice_index box.hi i)) (2 ^ 40) (lit< tt)
     (λ i l. mixing_of_least p (moles n f) (f.parts i) (slice_index box.lo i) (slice_index box.hi i) e some (inside.above i l) (inside.below i l) (small i l))

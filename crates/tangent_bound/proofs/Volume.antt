@@ -16,7 +16,7 @@ use Rattle.case_types.specs.Divisions.{bits, volume_part}
 use Rattle.case_types.specs.Numbers.{Numbers}
 use Rattle.pr_params.specs.Packings.{IsPacking}
 use Rattle.pr_params.proofs.Argument.{positive_between, packing_positive}
-use Rattle.pr_params.proofs.Sized.{e_ends}
+use Rattle.pr_params.proofs.Sized.{e_ends, scale_split}
 use Rattle.tangent_bound.proofs.Tangents.{IsRight, tangent_at}
 use Rattle.tangent_bound.proofs.Terms.{volume_upper, volume_lower, volume_flat}
 
@@ -168,9 +168,6 @@ start_of l blo hl hb =
     let a : 2 ^ (16 + l) ≤ 2 ^ 45 = pow-le-pow_right (lit< tt) {i = 16 + l} {j = 45} (omega (arith, hl)) in
     let a' : 1586260020565 * 2 ^ (16 + l) ≤ 1586260020565 * 2 ^ 45 = mul-le-mul_left 1586260020565 a in
     let b' : 1586259924992 * 2 ^ 60 ≤ 1586259924992 * blo = mul-le-mul_left 1586259924992 hb in omega (arith, a', b')
-
-scale_split : (l : ℕ) → 2 ^ (56 + l) ≡ 2 ^ 40 * 2 ^ (16 + l)
-scale_split l = let k : 56 + l ≡ 40 + (16 + l) = omega arith in ap (λ (x : ℕ). 2 ^ x) k ∙ pow-add 2 40 (16 + l)
 
 rest_of : (cl cn cd blo bn bd s yn yd : ℕ) → cl * cd ≤ cn * 2 ^ 40 → blo * bd ≤ bn * (2 ^ 40 * s) →
     cl * blo * yd * (cd * bd * yn) ≤ cn * bn * yd * (s * (2 ^ 40 * (2 ^ 40 * yn)))
