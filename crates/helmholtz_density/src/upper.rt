@@ -1,10 +1,14 @@
 //! The energy at one packing, at most.
 
 ghost use Rattle.std.specs.Prelude.{◌≡◌, ◌≤◌, ◌<◌, ◌^◌, ◌+◌, ◌-◌, ◌*◌, pos, ◌+ℤ◌, ◌-ℤ◌, ◌*ℤ◌, unsigned_abs, slice_index};
+ghost use Rattle.log_laws.specs.LogSum.{AtMost, ratio};
 ghost use Rattle.log_laws.specs.Whole.{ceil_div};
 ghost use Rattle.log_laws.specs.Squaring.{log_up, log_down};
-ghost use Rattle.case_types.specs.Numbers.{numbers_of};
+ghost use Rattle.case_types.specs.Numbers.{numbers_of, enclosures_of};
 ghost use Rattle.case_types.specs.Bounds.{energy_up as upper_energy, mixing_up};
+ghost use Rattle.case_types.specs.Divisions.{State, moles, bits, energy_of};
+ghost use Rattle.case_types.specs.Holding.{IsInBox};
+ghost use Rattle.case_types.specs.Instances.{Instance, IsInstance};
 ghost use Rattle.pr_params.specs.Boxes.{box_of};
 
 use crate::pulls::pull;
@@ -22,6 +26,14 @@ pub fn energy_up(params: &Params, x: &BoxX, y: u64) -> i128
     requires some { 1 ≤ y }
     requires inside { y < 2 ^ 40 }
     ensures value { result ≡ upper_energy (numbers_of params.now.case) (box_of x.now) y }
+    ensures at_most {
+        (roots : Instance) (f : State) →
+        IsInstance params.now.case (enclosures_of params.now.case) roots →
+        IsInBox params.now.case.n (box_of x.now) f →
+        0 < moles params.now.case.n f →
+        f.packing ≡ ratio y (2 ^ 40) →
+        AtMost (energy_of params.now.case roots f) (bits result)
+    }
     ensures small { unsigned_abs result ≤ 2 ^ 106 }
     ensures at_half { y ≡ 2 ^ 39 → unsigned_abs result < 2 ^ 49 }
 {

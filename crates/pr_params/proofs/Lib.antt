@@ -9,6 +9,10 @@ pub mod Made
 pub mod Accepted
 pub mod Signed
 pub mod Mean
+pub mod Argument
+pub mod Lambda
+pub mod Pull
+pub mod Sized
 pub mod Below
 pub mod Components
 pub mod Right

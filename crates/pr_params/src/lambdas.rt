@@ -1,8 +1,13 @@
 //! The logarithm of the attraction term, `log2((1+y+s*y)/(1+y-s*y))` with s the root of 2.
 
 ghost use Rattle.std.specs.Prelude.{◌≡◌, ◌+◌, ◌≤◌, ◌^◌, pos, neg_ℤ, ◌≤ℤ◌, unsigned_abs};
-ghost use Rattle.case_types.specs.Numbers.{numbers_of};
+ghost use Rattle.log_laws.specs.Fraction.{Fraction, IsAtMost};
+ghost use Rattle.log_laws.specs.LogSum.{AtLeast, AtMost, ratio};
+ghost use Rattle.case_types.specs.Divisions.{bits, log_of, attraction_argument};
+ghost use Rattle.case_types.specs.Instances.{Instance, IsInstance};
+ghost use Rattle.case_types.specs.Numbers.{numbers_of, enclosures_of};
 ghost use Rattle.case_types.specs.Bounds.{lambda_up, lambda_down, stretched_up, stretched_down};
+ghost use Rattle.pr_params.specs.Packings.{IsPacking};
 
 use crate::numbers::Params;
 use log_enclose::{log2_hi, log2_lo};
@@ -14,6 +19,13 @@ const ONE: u128 = 1 << 40;
 pub fn lam_hi(params: &Params, y: u64) -> i128
     requires { y ≤ 2 ^ 40 }
     ensures value { result ≡ lambda_up (numbers_of params.now.case) y }
+    ensures at_most {
+        (x : Instance) (packing : Fraction) →
+        IsInstance params.now.case (enclosures_of params.now.case) x →
+        IsPacking packing →
+        IsAtMost packing (ratio y (2 ^ 40)) →
+        AtMost (log_of (attraction_argument x.root_two packing)) (bits result)
+    }
     ensures small { unsigned_abs result ≤ 2 ^ 48 }
     ensures low { neg_ℤ (pos (2 ^ 41)) ≤ℤ result }
     ensures high { result ≤ℤ pos (2 ^ 42) }
@@ -27,6 +39,13 @@ pub fn lam_hi(params: &Params, y: u64) -> i128
 pub fn lam_lo(params: &Params, y: u64) -> i128
     requires { y ≤ 2 ^ 40 }
     ensures value { result ≡ lambda_down (numbers_of params.now.case) y }
+    ensures at_least {
+        (x : Instance) (packing : Fraction) →
+        IsInstance params.now.case (enclosures_of params.now.case) x →
+        IsPacking packing →
+        IsAtMost (ratio y (2 ^ 40)) packing →
+        AtLeast (log_of (attraction_argument x.root_two packing)) (bits result)
+    }
     ensures small { unsigned_abs result ≤ 2 ^ 48 }
     ensures low { neg_ℤ (pos (2 ^ 41)) ≤ℤ result }
     ensures high { result ≤ℤ pos (2 ^ 42) }

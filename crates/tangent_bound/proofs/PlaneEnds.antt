@@ -44,11 +44,6 @@ first_small lam h =
     let size : ℕ → Bool = λ i. nat_lt (unsigned_abs (slice_index_or lam i (pos 0))) (2 ^ 80) in
     below (unsigned_abs (slice_index_or lam 0 (pos 0))) (2 ^ 80) (first_of (size 0) (size 1) (size 2) (size 3) h)
 
--- the numbers count the components of their case
-pub count_of : (c : Case) → (numbers_of c).count ≡ c.n
-unfolding numbers_of
-count_of c = refl
-
 -- the low for n components
 abbrev low_at : Numbers → List ℤ → Region → ℕ → ℤ
 low_at p lam r n = energy_low p (box_of_region n r) r.ylo r.yhi -ℤ plane_high n lam (box_of_region n r)

@@ -1,9 +1,13 @@
 //! The energy over a box and a range of packings, at least.
 
-ghost use Rattle.std.specs.Prelude.{◌≡◌, ◌≤◌, ◌<◌, ◌^◌, ◌+◌, ◌-◌, ◌+ℤ◌, ◌-ℤ◌, unsigned_abs};
+ghost use Rattle.std.specs.Prelude.{◌≡◌, ◌≤◌, ◌<◌, ◌^◌, ◌+◌, ◌-◌, ◌*◌, pos, ◌+ℤ◌, ◌-ℤ◌, ◌*ℤ◌, ◌≤ℤ◌, unsigned_abs};
+ghost use Rattle.log_laws.specs.LogSum.{AtLeast};
 ghost use Rattle.log_laws.specs.Squaring.{log_up};
-ghost use Rattle.case_types.specs.Numbers.{numbers_of};
+ghost use Rattle.case_types.specs.Numbers.{numbers_of, enclosures_of};
 ghost use Rattle.case_types.specs.Bounds.{energy_low};
+ghost use Rattle.case_types.specs.Divisions.{State, IsState, bits, energy_of};
+ghost use Rattle.case_types.specs.Holding.{IsInBox};
+ghost use Rattle.case_types.specs.Instances.{Instance, IsInstance};
 ghost use Rattle.pr_params.specs.Boxes.{box_of};
 
 use crate::mixes::entropy;
@@ -22,6 +26,15 @@ pub fn low_energy(params: &Params, x: &BoxX, ylo: u64, yhi: u64) -> i128
     requires ordered { ylo < yhi }
     requires inside { yhi ≤ 2 ^ 40 }
     ensures value { result ≡ energy_low (numbers_of params.now.case) (box_of x.now) ylo yhi }
+    ensures at_least {
+        (roots : Instance) (f : State) →
+        IsInstance params.now.case (enclosures_of params.now.case) roots →
+        IsInBox params.now.case.n (box_of x.now) f →
+        IsState params.now.case.n f →
+        pos (ylo * f.packing.den) ≤ℤ (f.packing.num *ℤ pos (2 ^ 40)) →
+        (f.packing.num *ℤ pos (2 ^ 40)) ≤ℤ pos (yhi * f.packing.den) →
+        AtLeast (energy_of params.now.case roots f) (bits result)
+    }
     ensures small { unsigned_abs result ≤ 2 ^ 106 }
 {
     let b = b_range(params, x);

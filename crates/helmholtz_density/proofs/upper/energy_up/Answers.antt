@@ -1,15 +1,21 @@
-use Rattle.std.proofs.Common.{◌≡◌, ◌∙◌, ◌*◌, ◌<◌, ◌^◌, ◌+◌, ℤ, pos, ◌+ℤ◌, ◌-ℤ◌, ◌*ℤ◌, ◌≤ℤ◌, unsigned_abs, to_z, of_z, ap, arith}
+use Rattle.std.proofs.Common.{◌≡◌, ◌∙◌, ◌*◌, ◌<◌, ◌^◌, ◌+◌, ℤ, pos, ◌+ℤ◌, ◌-ℤ◌, ◌*ℤ◌, ◌≤ℤ◌, unsigned_abs, to_z, of_z, ap, sym, subst, arith}
 use Rattle.std.specs.Int.{w128}
 use Rattle.std.proofs.lemmas.Int.{ints, to_z_pos}
 use Rattle.log_laws.specs.Between.{Ends}
 use Rattle.log_laws.specs.Squaring.{log_down}
 use Rattle.log_laws.specs.Whole.{floor_div}
 use Rattle.log_laws.proofs.Exports.{back}
-use Rattle.case_types.specs.Bounds.{covolume_scale, covolume_range, lambda_down}
+use Rattle.case_types.specs.Bounds.{covolume_scale, covolume_range, lambda_down, ratio_low, energy_up}
+use Rattle.case_types.specs.Divisions.{bits, energy_of}
+use Rattle.log_laws.specs.LogSum.{AtMost}
 use Rattle.case_types.specs.Numbers.{numbers_of}
 use Rattle.pr_params.specs.Boxes.{box_of}
 use Rattle.pr_params.proofs.Mean.{count_is}
 use Rattle.pr_params.proofs.Signed.{natural_value, difference_read}
+use Rattle.pr_params.proofs.Sized.{sized_one, each_up_to}
+use Rattle.helmholtz_density.proofs.EnergyHigh.{energy_at_most}
+use Rattle.pr_params.proofs.ParametersHold.{holds_parameters}
+use Rattle.pr_params.proofs.MeansHold.{holds_means}
 use Rattle.helmholtz_density.proofs.Energy.{volume_part, attraction_part, energy_up_is, sum_size}
 use Rattle.helmholtz_density.proofs.Mixes.{volume_is}
 use Rattle.helmholtz_density.proofs.upper.energy_up.Goals as goal
@@ -62,13 +68,28 @@ attraction c =
     c.pull.ensures.value
     ∙ ap (λ z. floor_div (z *ℤ lambda_down p c.args.y *ℤ pos (2 ^ 19)) p.root_two.hi) (back c.g_lo-ratio.result r ∙ c.g_lo-ratio.ensures.value)
 
-pub returns-clause-value : goal.returns-clause-value
-returns-clause-value c =
-    let d = (goal.at.returns-clause-value c).After-pull in
-    read_is d
+-- the energy is that of the definition
+value_is : (c : After-pull) → read (read c.lowered-energy.result -ℤ read c.pull.result) ≡ energy_up (numbers_of c.args.params.now.case) (box_of c.args.x.now) c.args.y
+value_is c =
+    read_is c
     ∙ energy_up_is (numbers_of c.args.params.now.case) (box_of c.args.x.now) c.args.y c.entropy.result c.log_packing.result (pos c.push-push.result)
     c.log_covolume-log.result c.log_rest.result c.pull.result (count_is c.args.params.now.case c.requires.one)
-    c.entropy.ensures.value c.log_packing.ensures.value (volume d) (logarithm d) c.log_rest.ensures.value (attraction d)
+    c.entropy.ensures.value c.log_packing.ensures.value (volume c) (logarithm c) c.log_rest.ensures.value (attraction c)
+
+pub returns-clause-value : goal.returns-clause-value
+returns-clause-value c = value_is (goal.at.returns-clause-value c).After-pull
+
+pub returns-clause-at_most : goal.returns-clause-at_most
+returns-clause-at_most c = λ roots f inst inside state is.
+    let case = c.args.params.now.case in
+    let box = box_of c.args.x.now in
+    let holds = holds_parameters case roots c.args.params.now.accepted inst in
+    let means = holds_means case roots box f c.requires.one c.args.params.now.accepted holds inside state in
+    let sized = sized_one case box c.requires.one c.args.params.now.accepted
+        (λ i l. each_up_to 4 c.args.x.now.b (2 ^ 40) c.args.x.now.inside i (let s = case.few in omega (arith, l, s))) in
+    let some : pos 0 ≤ℤ ratio_low (numbers_of case) box = subst (λ (z : ℤ). pos 0 ≤ℤ z) c.g_lo-ratio.ensures.value c.g_lo-ratio.ensures.low in
+    subst (λ (z : ℤ). AtMost (energy_of case roots f) (bits z)) (sym (value_is (goal.at.returns-clause-at_most c).After-pull))
+    (energy_at_most case (numbers_of case) roots box f c.args.y sized some c.requires.some c.requires.inside holds means inside state is)
 
 pub returns-clause-at_half : goal.returns-clause-at_half
 returns-clause-at_half c = λ half.

@@ -2,6 +2,7 @@ use Rattle.std.proofs.Common.{◌∙◌, refl, arith, ℤ, ◌<◌, ◌^◌, uns
 use Rattle.std.proofs.lemmas.Int.{ints}
 use Rattle.log_laws.specs.Squaring.{IsSmall}
 use Rattle.case_types.specs.Bounds.{lambda_up}
+use Rattle.pr_params.proofs.Lambda.{instance_lambda_most}
 use Rattle.pr_params.proofs.Signed.{difference_read}
 use Rattle.pr_params.proofs.lambdas.lam_hi.Goals as goal
 
@@ -40,3 +41,13 @@ returns-clause-high c =
     let p = c.log2_hi.ensures.to_power 42 (omega arith) in
     let q = c.log2_lo.ensures.from_power 39 (omega arith) in
     omega (arith, ints, p, q)
+
+pub returns-clause-at_most : goal.returns-clause-at_most
+unfolding lambda_up
+returns-clause-at_most c = λ x y i packing order.
+    let p = size c.log2_hi.result c.log2_hi.ensures.small in
+    let q = size c.log2_lo.result c.log2_lo.ensures.small in
+    instance_lambda_most c.args.params.now.case x y c.args.y _
+    (difference_read c.log2_hi.result c.log2_lo.result (omega (arith, p)) (omega (arith, q))
+    ∙ rw (c.log2_hi.ensures.value, c.log2_lo.ensures.value, c.stretched_hi-stretched.ensures.value) refl)
+    c.requires i packing order

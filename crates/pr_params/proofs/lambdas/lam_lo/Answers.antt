@@ -2,6 +2,7 @@ use Rattle.std.proofs.Common.{◌∙◌, refl, arith, ℤ, ◌<◌, ◌^◌, uns
 use Rattle.std.proofs.lemmas.Int.{ints}
 use Rattle.log_laws.specs.Squaring.{IsSmall}
 use Rattle.case_types.specs.Bounds.{lambda_down}
+use Rattle.pr_params.proofs.Lambda.{instance_lambda_least}
 use Rattle.pr_params.proofs.Signed.{difference_read}
 use Rattle.pr_params.proofs.lambdas.lam_lo.Goals as goal
 
@@ -40,3 +41,13 @@ returns-clause-high c =
     let p = c.log2_lo.ensures.to_power 42 (omega arith) in
     let q = c.log2_hi.ensures.from_power 39 (omega arith) in
     omega (arith, ints, p, q)
+
+pub returns-clause-at_least : goal.returns-clause-at_least
+unfolding lambda_down
+returns-clause-at_least c = λ x y i packing order.
+    let p = size c.log2_lo.result c.log2_lo.ensures.small in
+    let q = size c.log2_hi.result c.log2_hi.ensures.small in
+    instance_lambda_least c.args.params.now.case x y c.args.y _
+    (difference_read c.log2_lo.result c.log2_hi.result (omega (arith, p)) (omega (arith, q))
+    ∙ rw (c.log2_lo.ensures.value, c.log2_hi.ensures.value, c.stretched_lo-stretched.ensures.value) refl)
+    c.requires i packing order

@@ -1,15 +1,21 @@
-use Rattle.std.proofs.Common.{◌≡◌, ◌∙◌, ◌<◌, ◌^◌, ◌+◌, ℤ, pos, ◌+ℤ◌, ◌-ℤ◌, ◌*ℤ◌, ◌≤ℤ◌, unsigned_abs, to_z, of_z, ap, arith}
+use Rattle.std.proofs.Common.{◌≡◌, ◌∙◌, ◌<◌, ◌^◌, ◌+◌, ℤ, pos, ◌+ℤ◌, ◌-ℤ◌, ◌*ℤ◌, ◌≤ℤ◌, unsigned_abs, to_z, of_z, ap, sym, subst, arith}
 use Rattle.std.specs.Int.{w128}
 use Rattle.std.proofs.lemmas.Int.{ints}
 use Rattle.log_laws.specs.Between.{Ends}
 use Rattle.log_laws.specs.Squaring.{log_up}
 use Rattle.log_laws.specs.Whole.{ceil_div}
 use Rattle.log_laws.proofs.Exports.{back}
-use Rattle.case_types.specs.Bounds.{covolume_range, lambda_up, volume_low}
+use Rattle.case_types.specs.Bounds.{covolume_range, lambda_up, ratio_high, volume_low, energy_low}
+use Rattle.case_types.specs.Divisions.{bits, energy_of}
+use Rattle.log_laws.specs.LogSum.{AtLeast}
 use Rattle.case_types.specs.Numbers.{numbers_of}
 use Rattle.pr_params.specs.Boxes.{box_of}
 use Rattle.pr_params.proofs.Mean.{count_is}
 use Rattle.pr_params.proofs.Signed.{natural_value, difference_read}
+use Rattle.pr_params.proofs.Sized.{sized_one, each_up_to}
+use Rattle.tangent_bound.proofs.EnergyLow.{energy_at_least}
+use Rattle.pr_params.proofs.ParametersHold.{holds_parameters}
+use Rattle.pr_params.proofs.MeansHold.{holds_means}
 use Rattle.tangent_bound.proofs.Terms.{attraction_part, energy_low_is}
 use Rattle.tangent_bound.proofs.lower.low_energy.Goals as goal
 use Rattle.tangent_bound.proofs.lower.low_energy.Goals.{After-pull}
@@ -59,10 +65,25 @@ attraction c =
     c.pull.ensures.value
     ∙ ap (λ z. ceil_div (z *ℤ lambda_up p c.args.yhi *ℤ pos (2 ^ 19)) p.root_two.lo) (back c.g_hi-ratio.result r ∙ c.g_hi-ratio.ensures.value)
 
-pub returns-clause-value : goal.returns-clause-value
-returns-clause-value c =
-    let d = (goal.at.returns-clause-value c).After-pull in
-    read_is d
+-- the energy is that of the definition
+value_is : (c : After-pull) → read (read c.lowered-energy.result -ℤ read c.pull.result) ≡ energy_low (numbers_of c.args.params.now.case) (box_of c.args.x.now) c.args.ylo c.args.yhi
+value_is c =
+    read_is c
     ∙ energy_low_is (numbers_of c.args.params.now.case) (box_of c.args.x.now) c.args.ylo c.args.yhi c.entropy.result c.volume.result
     c.log_covolume-log.result c.log_rest.result c.pull.result (count_is c.args.params.now.case c.requires.one)
-    c.entropy.ensures.value (volume_is d) (logarithm d) c.log_rest.ensures.value (attraction d)
+    c.entropy.ensures.value (volume_is c) (logarithm c) c.log_rest.ensures.value (attraction c)
+
+pub returns-clause-value : goal.returns-clause-value
+returns-clause-value c = value_is (goal.at.returns-clause-value c).After-pull
+
+pub returns-clause-at_least : goal.returns-clause-at_least
+returns-clause-at_least c = λ roots f inst inside state from to.
+    let case = c.args.params.now.case in
+    let box = box_of c.args.x.now in
+    let holds = holds_parameters case roots c.args.params.now.accepted inst in
+    let means = holds_means case roots box f c.requires.one c.args.params.now.accepted holds inside state.some in
+    let sized = sized_one case box c.requires.one c.args.params.now.accepted
+        (λ i l. each_up_to 4 c.args.x.now.b (2 ^ 40) c.args.x.now.inside i (let s = case.few in omega (arith, l, s))) in
+    let some : pos 0 ≤ℤ ratio_high (numbers_of case) box = subst (λ (z : ℤ). pos 0 ≤ℤ z) c.g_hi-ratio.ensures.value c.g_hi-ratio.ensures.low in
+    subst (λ (z : ℤ). AtLeast (energy_of case roots f) (bits z)) (sym (value_is (goal.at.returns-clause-at_least c).After-pull))
+    (energy_at_least case (numbers_of case) roots box f c.args.ylo c.args.yhi sized some c.requires.inside holds means inside state from to)
