@@ -5,3 +5,4 @@ pub mod EnergyHigh
 pub mod Shares
 pub mod Weighed
 pub mod Parts
+pub mod SplitHigh

@@ -62,13 +62,13 @@ share_step m Q (negsuc k) h =
         (omega (arith, product_is s (pos (Q * 2 ^ 40)), product_is (pos m *ℤ negsuc k) (pos (2 ^ 40)), product_is (pos m) (negsuc k), below_zero m Q (suc k) v (up s) (down s) l d))
 
 -- the energy of each phase is at most its upper energy
-pub AreBelow : Case → Instance → Numbers → List Phase → Type 0
+abbrev pub AreBelow : Case → Instance → Numbers → List Phase → Type 0
 AreBelow c x p [] = Unit {0}
 AreBelow c x p (f ∷ fs) = AtMost (energy_of c x (state_of f)) (bits (phase_up p f)) × AreBelow c x p fs
 
 pub phases_at_most : (c : Case) (x : Instance) (p : Numbers) (Q : ℕ) (fs : List Phase) → 0 < Q → p.count ≡ c.n → AreBelow c x p fs →
     AtMost (energy_of_phases c x Q (map state_of fs)) (bits (phases_up p Q fs))
-unfolding energy_of_phases phases_up AreBelow
+unfolding energy_of_phases phases_up
 phases_at_most c x p Q [] h n a = heightened (constant (whole (pos 0))) (whole (pos 0)) (bits (pos 0)) (parts_self (pos 0) 1 (omega arith)) (parts_self (pos 0) (2 ^ 40) (lit< tt)) (omega arith) (constant_at_most (whole (pos 0)) (omega arith))
 phases_at_most c x p Q (f ∷ fs) h n a =
     at_most_adds_at (scaled (ratio (moles c.n (state_of f)) Q) (energy_of c x (state_of f))) (energy_of_phases c x Q (map state_of fs))

@@ -2,10 +2,11 @@
 use Rattle.std.proofs.Common.{◌≡◌, ℕ, zero, suc, ◌+◌, ◌*◌, ◌^◌, ◌<◌, ◌≤◌, List, [], ◌∷◌, get_or, map, take, cond, Bool, true, false, ℤ, pos, negsuc, ◌-ℤ◌, ◌*ℤ◌, ◌≤ℤ◌, refl, sym, ◌∙◌, ap, arith, None}
 use Rattle.std.specs.Int.{int_max}
 use Rattle.std.proofs.lemmas.Int.{ints, clamps}
+use Rattle.std.proofs.Math.Nat.{zero-div}
 use Rattle.log_laws.specs.Between.{Ends}
 use Rattle.log_laws.specs.Squaring.{down, up}
 use Rattle.log_laws.specs.Roots.{root_digits, with_digit}
-use Rattle.log_laws.specs.Whole.{floor_over, ceil_div}
+use Rattle.log_laws.specs.Whole.{floor_over, ceil_over, ceil_div}
 use Rattle.log_laws.proofs.Exports.{ceil_over-pos}
 use Rattle.fix_interval.specs.declared.iv.Iv.{Iv}
 use Rattle.fix_interval.specs.Interval.{ends_of}
@@ -115,11 +116,22 @@ pub floor_positive : (z : ℤ) (d : ℕ) → pos 0 ≤ℤ z → pos 0 ≤ℤ flo
 floor_positive (pos n) d h = omega (arith, ints)
 floor_positive (negsuc n) d h = absurd (omega (arith, ints, h))
 
+-- nor is its ceiling
+ceiling_positive : (z : ℤ) (d : ℕ) → pos 0 ≤ℤ z → pos 0 ≤ℤ ceil_over z d
+ceiling_positive (pos zero) d h = rw (zero-div d) (omega (arith, ints))
+ceiling_positive (pos (suc n)) d h = omega (arith, ints)
+ceiling_positive (negsuc n) d h = absurd (omega (arith, ints, h))
+
 -- nor is a product of two such numbers
 product_positive : (a b : ℤ) → pos 0 ≤ℤ a → pos 0 ≤ℤ b → pos 0 ≤ℤ (a *ℤ b)
 product_positive (pos a) (pos b) h g = omega (arith, ints)
 product_positive (pos a) (negsuc b) h g = absurd (omega (arith, ints, g))
 product_positive (negsuc a) b h g = absurd (omega (arith, ints, h))
+
+-- nor is a square
+square_positive : (a : ℤ) → pos 0 ≤ℤ (a *ℤ a)
+square_positive (pos a) = omega (arith, ints)
+square_positive (negsuc a) = omega (arith, ints)
 
 -- the attraction of two components without alpha isn't negative
 pub bare_positive : (c : Case) (lift : ℕ) (q : Ends) (i j : ℕ) → i < c.n → j < c.n → pos 0 ≤ℤ (bare_attraction_ends c lift q i j).lo
@@ -142,6 +154,15 @@ attraction_positive c h e =
     let k = accepted_one c h e in
     let m : pos 0 ≤ℤ (alpha_one c).lo = omega (arith, ints, k.alpha) in
     floor_positive _ _ (product_positive (bare_one c).lo _ (bare_one_positive c) (floor_positive _ _ (product_positive _ _ m m)))
+
+-- nor is its upper end
+pub attraction_high_positive : (c : Case) → pos 0 ≤ℤ (attraction_one c).hi
+unfolding attraction_one bare_one
+attraction_high_positive c =
+    let k = interaction_at_most c 0 0 c.some c.some in
+    let rest : pos 0 ≤ℤ (pos 10000 -ℤ interaction c 0 0) = omega (arith, ints, k) in
+    let bare = ceiling_positive _ _ (product_positive _ _ (product_positive _ _ rest (omega (arith, ints))) (omega (arith, ints))) in
+    ceiling_positive _ _ (product_positive (bare_one c).hi _ bare (ceiling_positive _ _ (square_positive (alpha_one c).hi)))
 
 -- ---- the attraction over the co-volume
 -- the ceiling of a ratio of at most 1, in 2 ^ -47, lies from 0 to 2 ^ 47

@@ -22,3 +22,4 @@ pub mod Attracted
 pub mod ParametersHold
 pub mod MeansHold
 pub mod GreatestLift
+pub mod Ratios

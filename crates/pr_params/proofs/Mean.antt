@@ -72,7 +72,7 @@ range_one : (c : Case) (x : Box) → c.n ≡ 1 → pos 0 ≤ℤ (covolume_one c)
 range_one c x h low high = ap (λ (q : Numbers). covolume_range q x) (numbers_are c h) ∙ range_at_one c x low high
 
 -- the upper end of the co-volume isn't negative
-hi_positive : (c : Case) → pos 0 ≤ℤ (covolume_one c).hi
+pub hi_positive : (c : Case) → pos 0 ≤ℤ (covolume_one c).hi
 unfolding covolume_one
 hi_positive c = rw (ceil_over-pos (num_one c * 2 ^ (56 + lift_of c)) (den_one c) (den_positive c)) (omega (arith, ints))
 

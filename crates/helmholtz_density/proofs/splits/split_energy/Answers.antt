@@ -1,10 +1,15 @@
-use Rattle.std.proofs.Common.{ℕ, ◌≡◌, ◌<◌, ◌≤◌, ◌+◌, ◌*◌, ◌^◌, ℤ, ◌+ℤ◌, unsigned_abs, to_z, of_z, [], arith, rules}
+use Rattle.std.proofs.Common.{ℕ, ◌≡◌, ◌<◌, ◌≤◌, ◌+◌, ◌*◌, ◌^◌, ℤ, ◌+ℤ◌, unsigned_abs, to_z, of_z, [], subst, sym, arith, rules}
 use Rattle.std.proofs.lemmas.Int.{ints}
 use mir.Syntax.{w128}
 use Rattle.case_types.specs.Numbers.{numbers_of}
 use Rattle.pr_params.proofs.Mean.{count_is}
 use Rattle.helmholtz_density.proofs.Parts.{phase_of, sum_step, sum_end}
+use Rattle.log_laws.specs.LogSum.{AtMost}
+use Rattle.case_types.specs.Bounds.{split_up}
+use Rattle.case_types.specs.Divisions.{energy_of_division, division_of, bits}
+use Rattle.helmholtz_density.proofs.SplitHigh.{split_at_most}
 use Rattle.helmholtz_density.proofs.splits.split_energy.Goals as goal
+use Rattle.helmholtz_density.proofs.splits.split_energy.Goals.{After-loop-phase}
 
 pub weighed_energy-energy-requires-clause-some : goal.weighed_energy-energy-requires-clause-some
 weighed_energy-energy-requires-clause-some c =
@@ -50,11 +55,19 @@ loop-phase-preserved c =
       small = f.1;
     })
 
-pub returns : goal.returns
-returns c =
+-- the sum is that of the definition
+value_is : (c : After-loop-phase) → to_z w128 c.loop-phase.energy-bits ≡ split_up (numbers_of c.args.params.now.case) c.args.split.now
+value_is c =
     let e = c.deref-phase-items.ensures.0 in
     let l = rw e at c.loop-phase-test.false in
-    record {
-      value = sum_end (numbers_of c.args.params.now.case) c.args.split.now.sum c.args.split.now.phases.items c.loop-phase.phase-index
-          (to_z w128 c.loop-phase.energy-bits) l c.loop-phase.invariant.whole;
-    }
+    sum_end (numbers_of c.args.params.now.case) c.args.split.now.sum c.args.split.now.phases.items c.loop-phase.phase-index
+    (to_z w128 c.loop-phase.energy-bits) l c.loop-phase.invariant.whole
+
+pub returns-clause-value : goal.returns-clause-value
+returns-clause-value c = value_is (goal.at.returns-clause-value c).After-loop-phase
+
+pub returns-clause-at_most : goal.returns-clause-at_most
+returns-clause-at_most c = λ roots inst.
+    let case = c.args.params.now.case in
+    subst (λ (z : ℤ). AtMost (energy_of_division case roots (division_of c.args.split.now)) (bits z)) (sym (value_is (goal.at.returns-clause-at_most c).After-loop-phase))
+    (split_at_most case roots c.args.split.now c.requires.one c.args.params.now.accepted inst c.requires.divides)
