@@ -5,8 +5,7 @@ use Rattle.std.proofs.Math.Nat.{eq_of_mul-eq-mul_left}
 use Rattle.std.proofs.Math.Seq.{drop-cons}
 use Rattle.std.proofs.lemmas.Int.{ints}
 use Rattle.std.specs.Prelude.{nat_le}
-use Rattle.pr_params.proofs.Below.{all_below_at}
-use Rattle.pr_params.proofs.Component.{at_most}
+use Rattle.pr_params.proofs.Components.{feed_at}
 use Rattle.log_laws.specs.Sums.{sum_below}
 use Rattle.case_types.specs.declared.cases.Case.{Case}
 use Rattle.case_types.specs.declared.phases.Phase.{Phase}
@@ -27,7 +26,7 @@ all_parts : (c : Case) (s : Split) → c.n ≡ 1 → Divides c (division_of s) �
 all_parts c s one h =
     let whole : 0 + feed c 0 ≡ c.total = subst (λ (n : ℕ). sum_below n (slice_index c.z) ≡ c.total) one c.added in
     let e = h.adds_up 0 (omega (arith, one)) in
-    let live : 1 ≤ feed c 0 = at_most 1 (feed c 0) (all_below_at c.n (λ i. nat_le 1 (slice_index c.z i)) 0 (omega (arith, one)) c.live) in
+    let live = feed_at c 0 (omega (arith, one)) in
     same c.total (feed c 0) (parts_in (map state_of s.phases.items) 0) s.sum whole live e
   where
     same : (W z p Q : ℕ) → 0 + z ≡ W → 1 ≤ z → W * p ≡ z * Q → p ≡ Q

@@ -1,2 +1,3 @@
 pub mod OnePhase
 pub mod Ended
+pub mod Duality

@@ -5,8 +5,9 @@
 #![tactic(auto)]
 
 mod answers;
+mod flash;
 mod rounds;
 mod splits;
 mod top;
 
-pub use top::flash_tp;
+pub use flash::flash_tp;

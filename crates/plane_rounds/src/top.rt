@@ -1,4 +1,4 @@
-//! The flash.
+//! The rounds of a flash: a plane, a search under it, a column that cuts it off, and the next plane.
 
 ghost use Rattle.std.specs.Prelude.{◌≡◌, ◌≤◌, ◌<◌, ◌+◌, ◌*◌, ◌^◌, [], ◌∷◌, pos, ◌≤ℤ◌, IfOk, length};
 ghost use Rattle.case_types.specs.Answers.{IsAnswer, delta_of};
@@ -18,10 +18,8 @@ use pr_params::Params;
 use std::alloc::Global;
 use tangent_bound::low_plain;
 
-/// The flash at the temperature and pressure of the case. All memory is taken before the first unit is spent.
-///
-/// `tol` is the tolerance in 2^-20 bit, `budget` the most units of work.
-pub fn flash_tp(alloc: Global, params: &Params, tol: u32, budget: u32) -> Result<Answer, Memory>
+/// The rounds of a flash. All memory is taken before the first unit is spent.
+pub fn flashed(alloc: Global, params: &Params, tol: u32, budget: u32) -> Result<Answer, Memory>
     requires one { params.now.case.n ≡ 1 }
     requires tol_low { 128 ≤ tol }
     requires tol_high { tol ≤ 1048576 }

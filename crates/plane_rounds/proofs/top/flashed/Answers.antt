@@ -13,8 +13,8 @@ use Rattle.box_search.proofs.Pure.{count_is}
 use Rattle.box_search.proofs.Trees.{leaf_over}
 use Rattle.plane_rounds.specs.Planes.{plane_over}
 use Rattle.plane_rounds.proofs.Ended.{cost_small, follows_low, lowest_of, cause_of, entered}
-use Rattle.plane_rounds.proofs.top.flash_tp.Goals as goal
-use Rattle.plane_rounds.proofs.top.flash_tp.Goals.{After-round-found, In-Enters}
+use Rattle.plane_rounds.proofs.top.flashed.Goals as goal
+use Rattle.plane_rounds.proofs.top.flashed.Goals.{After-round-found, In-Enters}
 
 pub plane_of-plane-requires : goal.plane_of-plane-requires
 plane_of-plane-requires c = cost_small (numbers_of c.args.params.now.case) c.loop-column.basis c.loop-column.invariant.column

@@ -5,7 +5,7 @@ use Rattle.case_types.specs.Columns.{IsColumn}
 use Rattle.case_types.specs.Numbers.{numbers_of}
 use Rattle.plane_rounds.specs.Planes.{plane_over}
 use Rattle.plane_rounds.specs.Room.{HasRoom, IsCounted}
-use Rattle.plane_rounds.proofs.top.flash_tp.Given as goal
+use Rattle.plane_rounds.proofs.top.flashed.Given as goal
 
 abbrev pub invariant-loop-column : goal.invariant-loop-column
 invariant-loop-column l = record {

@@ -1,0 +1,30 @@
+//! The flash, and what it promises.
+
+ghost use Rattle.std.specs.Prelude.{◌≡◌, ◌≤◌, ◌*◌, ◌^◌, pos, ◌≤ℤ◌, IfOk, length};
+ghost use Rattle.case_types.specs.Answers.{IsAnswer};
+ghost use Rattle.case_types.specs.Divisions.{Certified, division_of};
+ghost use Rattle.case_types.specs.Numbers.{enclosures_of};
+
+use crate::top::flashed;
+use case_types::{Answer, Memory};
+use pr_params::Params;
+use std::alloc::Global;
+
+/// The flash at the temperature and pressure of the case. All memory is taken before the first unit is spent.
+///
+/// The answer is certified, whatever its outcome: its split is a division of the feed whose energy is at most `u`, and no
+/// division of the feed has an energy below `u - gap`, for every choice of the roots and of log2 e within the printed pairs.
+/// `tol` is the tolerance in 2^-20 bit, `budget` the most units of work. Where the flash closes, the gap is at most half the
+/// tolerance.
+pub fn flash_tp(alloc: Global, params: &Params, tol: u32, budget: u32) -> Result<Answer, Memory>
+    requires one { params.now.case.n ≡ 1 }
+    requires tol_low { 128 ≤ tol }
+    requires tol_high { tol ≤ 1048576 }
+    requires budget_low { 1 ≤ budget }
+    requires budget_high { budget ≤ 10000000 }
+    ensures certified { IfOk result (λ a. Certified params.now.case (enclosures_of params.now.case) (division_of a.split) a.u a.gap) }
+    ensures answer { IfOk result (λ a. IsAnswer params.now.case tol budget a) }
+    ensures one_phase { IfOk result (λ a. length a.split.phases.items ≡ 1) }
+{
+    flashed(alloc, params, tol, budget)
+}
