@@ -3,7 +3,7 @@
 ghost use Rattle.std.specs.Prelude.{◌≡◌, ◌≤◌, ◌*◌, ◌^◌, pos, ◌≤ℤ◌, IfOk, length};
 ghost use Rattle.case_types.specs.Answers.{IsAnswer};
 ghost use Rattle.case_types.specs.Divisions.{Certified, division_of};
-ghost use Rattle.case_types.specs.Numbers.{enclosures_of};
+ghost use Rattle.pr_params.specs.Kept.{pairs_kept};
 
 use crate::top::flashed;
 use case_types::{Answer, Memory};
@@ -22,7 +22,7 @@ pub fn flash_tp(alloc: Global, params: &Params, tol: u32, budget: u32) -> Result
     requires tol_high { tol ≤ 1048576 }
     requires budget_low { 1 ≤ budget }
     requires budget_high { budget ≤ 10000000 }
-    ensures certified { IfOk result (λ a. Certified params.now.case (enclosures_of params.now.case) (division_of a.split) a.u a.gap) }
+    ensures certified { IfOk result (λ a. Certified params.now.case (pairs_kept params.now) (division_of a.split) a.u a.gap) }
     ensures answer { IfOk result (λ a. IsAnswer params.now.case tol budget a) }
     ensures one_phase { IfOk result (λ a. length a.split.phases.items ≡ 1) }
 {

@@ -1,13 +1,16 @@
+use Rattle.std.proofs.Common.{subst, sym}
 use Rattle.std.proofs.lemmas.Result.{IfOk-weaker}
 use Rattle.case_types.specs.declared.answers.Answer.{Answer}
 use Rattle.case_types.specs.Answers.{IsAnswer}
 use Rattle.case_types.specs.Divisions.{Certified, division_of}
-use Rattle.case_types.specs.Numbers.{enclosures_of}
+use Rattle.case_types.specs.Instances.{Enclosures}
+use Rattle.pr_params.specs.Kept.{pairs_kept}
 use Rattle.plane_rounds.proofs.Duality.{certified}
 use Rattle.plane_rounds.proofs.flash.flash_tp.Goals as goal
 
 pub returns-clause-certified : goal.returns-clause-certified
 returns-clause-certified c =
     let case = c.args.params.now.case in
-    IfOk-weaker c.flashed.result (IsAnswer case c.args.tol c.args.budget) (λ (a : Answer). Certified case (enclosures_of case) (division_of a.split) a.u a.gap)
-    (λ a h. certified case c.args.tol c.args.budget a c.requires.one c.args.params.now.accepted h) c.flashed.ensures.answer
+    IfOk-weaker c.flashed.result (IsAnswer case c.args.tol c.args.budget) (λ (a : Answer). Certified case (pairs_kept c.args.params.now) (division_of a.split) a.u a.gap)
+    (λ a h. subst (λ (e : Enclosures). Certified case e (division_of a.split) a.u a.gap) (sym c.args.params.now.printed)
+    (certified case c.args.tol c.args.budget a c.requires.one c.args.params.now.accepted h)) c.flashed.ensures.answer
