@@ -7,7 +7,6 @@ pub use Rattle.log_laws.proofs.Ring.{floor_over-le, lt-floor_over, le-ceil_over,
 pub use Rattle.log_laws.proofs.Powers.{pow-mul, pow_pos_of, one-pow, le_of_pow-le}
 pub use Rattle.log_laws.proofs.Wide.{back}
 pub use Rattle.log_laws.proofs.Indexed.{sum_below-add, sum_below-none, sum_below-scaled, sum_below-scaled_same, sum_below-less, le-sum_below}
-
 -- ---- the value of a fraction as a difference of whole numbers over a third
 pub use Rattle.log_laws.proofs.Parts.{IsParts, product_pos, parts_self, parts_ratio, parts_one, parts_negated, parts_sum, parts_sum_at, parts_product, parts_respelled, parts_of_same}
 pub use Rattle.log_laws.proofs.Parts.{same_of_parts, at_most_of_parts, parts_of_at_most}
@@ -19,7 +18,6 @@ pub use Rattle.log_laws.proofs.Weighing.{at_least_weighs}
 pub use Rattle.log_laws.proofs.Indexed.{at_least_sums, parts_sum_below}
 pub use Rattle.log_laws.proofs.Terms.{over_den, lowered, at_least_adds_at, constant_at_least, at_least_constant, dens_of}
 pub use Rattle.log_laws.proofs.Uppers.{at_most_adds, at_most_scales, at_most_raises, heightened, at_most_adds_at, constant_at_most}
-
 -- ---- single logarithms, their quotients, and the logarithm of e
 pub use Rattle.log_laws.proofs.Arguments.{at_least_takes_larger, at_least_multiplies, at_least_merges}
 pub use Rattle.log_laws.proofs.Terms.{one, quotient_at_least, minus_log, minus_log_quotient, bounds_ordered}

@@ -1,16 +1,16 @@
 -- Upper bounds of log sums, by lower bounds of the opposites.
-use Rattle.std.proofs.Common.{ℕ, ◌+◌, ◌*◌, ◌<◌, ◌≤◌, ◌≡◌, refl, sym, ap, ap₂, subst, List, [], ◌∷◌, ◌++◌, arith}
+use Rattle.std.proofs.Common.{ℕ, ◌+◌, ◌*◌, ◌<◌, ◌≤◌, ◌≡◌, refl, sym, ap, ap₂, List, [], ◌∷◌, ◌++◌, arith}
 use Rattle.std.proofs.Math.IntN.{*ℤ_comm}
 use Rattle.std.proofs.lemmas.Int.{ints}
 use Rattle.std.specs.Prelude.{◌≤ℤ◌}
 use lib.IntN.{ℤ, pos, neg_ℤ, ◌+ℤ◌, ◌*ℤ◌}
 use Rattle.log_laws.specs.Fraction.{Fraction, IsFraction, IsAtMost, negated, sum_of, product_of}
-use Rattle.log_laws.specs.LogSum.{Term, LogSum, AtLeast, AtMost, added, scaled, scaled_terms, opposite, opposite_terms, constant}
+use Rattle.log_laws.specs.LogSum.{Term, LogSum, AtMost, added, scaled, scaled_terms, opposite, opposite_terms, constant}
 use Rattle.log_laws.proofs.Ring.{neg-mul}
 use Rattle.log_laws.proofs.Parts.{IsParts, parts_negated}
 use Rattle.log_laws.proofs.Sums.{at_least_adds, at_least_scales, at_least_lowers, negated-sum_of}
 use Rattle.log_laws.proofs.Opposite.{at_most_is_opposite}
-use Rattle.log_laws.proofs.Terms.{over_den, lowered, at_least_adds_at, constant_at_least, IsSameSum, at_least-same}
+use Rattle.log_laws.proofs.Terms.{over_den, lowered, at_least_adds_at, constant_at_least}
 
 -- the opposite of the opposites
 opposite-append : (ts us : List Term) → opposite_terms (ts ++ us) ≡ opposite_terms ts ++ opposite_terms us
