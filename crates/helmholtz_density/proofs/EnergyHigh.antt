@@ -1,15 +1,15 @@
 -- The energy of a state of a box and of a packing is at most the upper energy.
-use Rattle.std.proofs.Common.{ℕ, ◌+◌, ◌-◌, ◌*◌, ◌^◌, ◌≤◌, ◌<◌, ◌≡◌, refl, ap, sym, subst, ◌∙◌, arith, lit<, ℤ, pos, neg_ℤ, ◌+ℤ◌, ◌-ℤ◌, ◌*ℤ◌, ◌≤ℤ◌, ◌<ℤ◌, unsigned_abs, slice_index}
+use Rattle.std.proofs.Common.{ℕ, ◌+◌, ◌-◌, ◌*◌, ◌^◌, ◌≤◌, ◌<◌, ◌≡◌, ap, sym, subst, ◌∙◌, arith, lit<, ℤ, pos, neg_ℤ, ◌+ℤ◌, ◌-ℤ◌, ◌*ℤ◌, ◌≤ℤ◌, ◌<ℤ◌, unsigned_abs, slice_index}
 use Rattle.std.proofs.Math.Nat.{mul-le-mul, mul-le-mul_right, le_of_mul-le-mul_right}
 use Rattle.std.proofs.lemmas.Int.{ints}
-use Rattle.std.proofs.lemmas.Nat.{pow-add, pow_pos}
+use Rattle.std.proofs.lemmas.Nat.{pow_pos}
 use borrow.Author.Differences.{le_out, at_most_in}
 use Rattle.log_laws.specs.Between.{Ends, IsBetween}
-use Rattle.log_laws.specs.Fraction.{Fraction, IsFraction, IsAtMost, whole, negated, difference, product_of, quotient_of}
+use Rattle.log_laws.specs.Fraction.{Fraction, IsFraction, IsAtMost, whole, difference, product_of, quotient_of}
 use Rattle.log_laws.specs.LogSum.{AtLeast, AtMost, ratio, IsPositive, added, constant}
 use Rattle.log_laws.specs.Squaring.{log_up, log_down}
 use Rattle.log_laws.specs.Whole.{floor_div, ceil_div, ceil_quotient}
-use Rattle.log_laws.proofs.Exports.{at_most_is_opposite, IsParts, parts_one, parts_ratio, parts_sum, parts_negated, parts_respelled, product_pos, floor_over-le, ceil_over-pos, one, by_ratio, order_of_ratios, at_most_adds_at, constant_at_most, at_least_takes_larger, at_most_raises}
+use Rattle.log_laws.proofs.Exports.{at_most_is_opposite, parts_one, parts_ratio, parts_sum, parts_negated, parts_respelled, product_pos, floor_over-le, ceil_over-pos, one, by_ratio, order_of_ratios, at_most_adds_at, constant_at_most, at_least_takes_larger, at_most_raises}
 use Rattle.log_enclose.proofs.Exports.{log_up_at_most, log_down_at_least}
 use Rattle.case_types.specs.declared.cases.Case.{Case}
 use Rattle.case_types.specs.Bounds.{Box, mixing_up, covolume_scale, covolume_range, ratio_low, lambda_down, energy_up}
@@ -180,8 +180,8 @@ energy_at_most c p x box f Y sized ratio_low_positive some within holds means in
     let x3 = covolume_most b (56 + p.lift) v pb sized.covolume_low lo means.covolume in
     let x4 = subst (λ (y : Fraction). AtMost (minus_log_of (difference (whole (pos 1)) y)) (bits z4)) back (rest_most Y within) in
     let x5 = subst (λ (y : Fraction). AtMost (attraction_part x.root_two a b y) (bits z5)) back
-        (pull_piece p x.root_two a b (ratio Y (2 ^ 40)) (ratio_low p box) Y sized.root_two holds.root_two pb (mean_attraction_is_fraction c p x f holds state) (grid_packing Y some within)
-        ratio_low_positive means.ratio_low (at_most_in (pos (Y * 2 ^ 40)) (pos (Y * 2 ^ 40)) (omega arith)) (omega (arith, within))) in
+    (pull_piece p x.root_two a b (ratio Y (2 ^ 40)) (ratio_low p box) Y sized.root_two holds.root_two pb (mean_attraction_is_fraction c p x f holds state) (grid_packing Y some within)
+    ratio_low_positive means.ratio_low (at_most_in (pos (Y * 2 ^ 40)) (pos (Y * 2 ^ 40)) (omega arith)) (omega (arith, within))) in
     let x45 = at_most_adds_at s4 s5 z4 z5 (2 ^ 40) o x4 x5 in
     let x35 = at_most_adds_at s3 (added s4 s5) z3 (z4 +ℤ z5) (2 ^ 40) o x3 x45 in
     let x25 = at_most_adds_at s2 (added s3 (added s4 s5)) z2 (z3 +ℤ (z4 +ℤ z5)) (2 ^ 40) o x2 x35 in

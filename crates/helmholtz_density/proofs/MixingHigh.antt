@@ -1,12 +1,12 @@
 -- The mixing term, x log x, at most: from the logarithm of the greater end, which isn't positive.
-use Rattle.std.proofs.Common.{ℕ, zero, suc, ◌+◌, ◌-◌, ◌*◌, ◌^◌, ◌≤◌, ◌<◌, ◌≡◌, ◌≢◌, refl, ap, sym, subst, ◌∙◌, arith, lit<, ℤ, pos, negsuc, neg_ℤ, ◌+ℤ◌, ◌-ℤ◌, ◌*ℤ◌, ◌≤ℤ◌, inl, inr, slice_index}
-use Rattle.std.proofs.Math.Nat.{mul-le-mul_right, le_of_mul-le-mul_right}
+use Rattle.std.proofs.Common.{ℕ, zero, suc, ◌+◌, ◌*◌, ◌^◌, ◌≤◌, ◌<◌, ◌≡◌, ◌≢◌, refl, sym, subst, ◌∙◌, arith, lit<, ℤ, pos, negsuc, neg_ℤ, ◌*ℤ◌, ◌≤ℤ◌, inl, inr, slice_index}
+use Rattle.std.proofs.Math.Nat.{mul-le-mul_right}
 use Rattle.std.proofs.lemmas.Bool.{cases_lt}
 use Rattle.std.proofs.lemmas.Int.{ints}
 use lib.Count.{count_leading_zeros}
 use borrow.Author.Differences.{up, down, at_most_in, le_out, product_is, neg_is}
-use Rattle.log_laws.specs.Fraction.{IsFraction, whole, negated, product_of}
-use Rattle.log_laws.specs.LogSum.{LogSum, AtLeast, AtMost, times_log, ratio, scaled, constant}
+use Rattle.log_laws.specs.Fraction.{whole, negated, product_of}
+use Rattle.log_laws.specs.LogSum.{LogSum, AtMost, times_log, ratio, scaled, constant}
 use Rattle.log_laws.specs.Squaring.{up as digits_up, log_up}
 use Rattle.log_laws.specs.Whole.{ceil_div}
 use Rattle.log_laws.proofs.Exports.{at_most_is_opposite, parts_self, parts_ratio, parts_product, product_pos, le-ceil_over, at_least_scales, one, lowered, minus_log, at_most_adds_at, at_most_raises, constant_at_most}
@@ -43,8 +43,7 @@ ceiling_parts : (a : ℕ) (l u : ℤ) → (pos a *ℤ l) ≤ℤ (u *ℤ pos (2 ^
     (down (neg_ℤ l) ≡ 0) × (up (neg_ℤ u) * 2 ^ 40 ≤ down (neg_ℤ u) * 2 ^ 40 + a * up (neg_ℤ l))
 ceiling_parts a l u h k =
     let q = le_out (pos a *ℤ l) (u *ℤ pos (2 ^ 40)) h in
-    let d = nothing l k in
-    (
+    let d = nothing l k in (
       rw (neg_is l).1 d,
       rw ((neg_is l).0, (neg_is u).0, (neg_is u).1) (shown a (up l) (down l) (up u) (down u) d (omega (arith, q, product_is (pos a) l, product_is u (pos (2 ^ 40))))),
     )

@@ -26,14 +26,12 @@ pub fn energy_up(params: &Params, x: &BoxX, y: u64) -> i128
     requires some { 1 ≤ y }
     requires inside { y < 2 ^ 40 }
     ensures value { result ≡ upper_energy (numbers_of params.now.case) (box_of x.now) y }
-    ensures at_most {
-        (roots : Instance) (f : State) →
+    ensures at_most { (roots : Instance) (f : State) →
         IsInstance params.now.case (enclosures_of params.now.case) roots →
         IsInBox params.now.case.n (box_of x.now) f →
         0 < moles params.now.case.n f →
         f.packing ≡ ratio y (2 ^ 40) →
-        AtMost (energy_of params.now.case roots f) (bits result)
-    }
+        AtMost (energy_of params.now.case roots f) (bits result) }
     ensures small { unsigned_abs result ≤ 2 ^ 106 }
     ensures at_half { y ≡ 2 ^ 39 → unsigned_abs result < 2 ^ 49 }
 {

@@ -1,8 +1,8 @@
 -- The argument of the attraction term, (1 + y + s y) / (1 + y - s y), as a quotient of whole numbers.
-use Rattle.std.proofs.Common.{ℕ, zero, suc, ◌+◌, ◌-◌, ◌*◌, ◌^◌, ◌≤◌, ◌<◌, ◌≡◌, ap, arith, lit<, ℤ, pos, negsuc, ◌*ℤ◌, ◌≤ℤ◌, ◌<ℤ◌}
+use Rattle.std.proofs.Common.{ℕ, zero, suc, ◌+◌, ◌*◌, ◌^◌, ◌≤◌, ◌<◌, ◌≡◌, ap, arith, lit<, ℤ, pos, negsuc, ◌*ℤ◌, ◌≤ℤ◌}
 use Rattle.std.proofs.Math.Nat.{mul-le-mul_right, le_of_mul-le-mul_right}
 use borrow.Author.Differences.{up, le_out, lt_out, product_is}
-use Rattle.log_laws.specs.Between.{Ends, IsBetween}
+use Rattle.log_laws.specs.Between.{IsBetween}
 use Rattle.log_laws.specs.Fraction.{Fraction, sum_of, difference, product_of}
 use Rattle.log_laws.specs.LogSum.{ratio, IsPositive}
 use Rattle.log_laws.proofs.Exports.{IsParts, parts_one, parts_ratio, parts_sum, parts_product, parts_negated, parts_respelled, product_pos, one, parts_quotient, quotient_of_parts, by_ratio, order_of_ratios}

@@ -1,15 +1,15 @@
 -- The ends of the logarithm of the attraction term: at most at a packing above, at least at a packing below.
-use Rattle.std.proofs.Common.{ℕ, ◌+◌, ◌-◌, ◌*◌, ◌/◌, ◌^◌, ◌≤◌, ◌<◌, ◌≡◌, refl, ap, ◌∙◌, subst, arith, lit<, lit≤, ℤ, pos, neg_ℤ, ◌+ℤ◌, ◌-ℤ◌, unsigned_abs}
+use Rattle.std.proofs.Common.{ℕ, ◌+◌, ◌-◌, ◌*◌, ◌/◌, ◌^◌, ◌≤◌, ◌<◌, ◌≡◌, refl, ap, subst, arith, lit<, lit≤, ℤ, pos, neg_ℤ, ◌-ℤ◌, unsigned_abs}
 use Rattle.std.proofs.Math.Nat.{mul-le-mul_right, le_of_mul-le-mul_right}
 use Rattle.std.proofs.lemmas.Int.{ints}
 use lib.Count.{count_leading_zeros}
 use borrow.Author.Differences.{up, down, sum_is_lem}
 use Rattle.log_laws.specs.Between.{Ends, IsBetween}
-use Rattle.log_laws.specs.Fraction.{Fraction, IsAtMost, negated, difference, whole}
+use Rattle.log_laws.specs.Fraction.{Fraction, IsAtMost, negated, difference}
 use Rattle.log_laws.specs.LogSum.{LogSum, AtLeast, AtMost, ratio, IsPositive, times_log}
 use Rattle.log_laws.specs.Squaring.{down as digits_down, up as digits_up, log_down, log_up}
 use Rattle.log_laws.specs.Whole.{ceil_quotient}
-use Rattle.log_laws.proofs.Exports.{at_most_is_opposite, at_least_powers, IsParts, parts_self, parts_sum_at, product_pos, ceil_over-pos, one, over_den, lowered, quotient_at_least, minus_log_quotient, at_least-same, same_argument_of, quotient_of_parts, order_of_ratios}
+use Rattle.log_laws.proofs.Exports.{at_most_is_opposite, IsParts, parts_self, parts_sum_at, product_pos, ceil_over-pos, one, over_den, lowered, quotient_at_least, minus_log_quotient, at_least-same, same_argument_of, quotient_of_parts, order_of_ratios}
 use Rattle.log_enclose.proofs.Exports.{log_down_at_least, log_up_at_most}
 use Rattle.case_types.specs.Bounds.{lambda_up, lambda_down, stretched_up, stretched_down}
 use Rattle.case_types.specs.Divisions.{bits, log_of, minus_log_of, attraction_argument}

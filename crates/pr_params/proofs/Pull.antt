@@ -3,9 +3,9 @@ use Rattle.std.proofs.Common.{ℕ, zero, suc, ◌+◌, ◌*◌, ◌^◌, ◌≤�
 use Rattle.std.proofs.Math.Nat.{mul-le-mul_right, le_of_mul-le-mul_right}
 use Rattle.std.proofs.lemmas.Int.{ints}
 use borrow.Author.Differences.{up, down, at_most_in, le_out, product_is, neg_is}
-use Rattle.log_laws.specs.Fraction.{Fraction, IsFraction, IsAtMost, IsSame, whole, negated, difference, product_of, quotient_of}
+use Rattle.log_laws.specs.Fraction.{Fraction, IsFraction, IsAtMost, IsSame, whole, negated, product_of, quotient_of}
 use Rattle.log_laws.specs.LogSum.{AtLeast, AtMost, ratio, IsPositive, times_log, scaled}
-use Rattle.log_laws.proofs.Exports.{at_most_is_opposite, IsParts, parts_self, parts_ratio, parts_one, parts_product, parts_negated, parts_respelled, parts_sum_at, parts_of_at_most, same_of_parts, product_pos, at_least_scales, one, over_den, lowered, bounds_ordered, at_least-same, by_ratio, order_of_ratios, parts_quotient, quotient_of_parts}
+use Rattle.log_laws.proofs.Exports.{at_most_is_opposite, IsParts, parts_self, parts_ratio, parts_one, parts_product, parts_negated, parts_respelled, parts_sum_at, parts_of_at_most, same_of_parts, product_pos, at_least_scales, one, lowered, bounds_ordered, at_least-same, by_ratio, order_of_ratios, parts_quotient, quotient_of_parts}
 use Rattle.case_types.specs.Divisions.{bits, log_of, minus_log_of}
 
 -- ---- one logarithm scaled

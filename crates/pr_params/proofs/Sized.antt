@@ -1,7 +1,6 @@
 -- How large the numbers of a case are over a box: what the bounds of energies need to know.
-use Rattle.std.proofs.Common.{ℕ, zero, suc, ◌+◌, ◌*◌, ◌^◌, ◌<◌, ◌≤◌, ◌≡◌, Bool, true, false, ◌&&◌, nat_le, IsTrue, refl, sym, subst, ap, ◌∙◌, arith, lit<, inl, inr, None, List, ℤ, pos, ◌*ℤ◌, ◌≤ℤ◌, slice_index}
+use Rattle.std.proofs.Common.{ℕ, zero, suc, ◌+◌, ◌*◌, ◌^◌, ◌<◌, ◌≤◌, ◌≡◌, nat_le, IsTrue, refl, sym, subst, ap, ◌∙◌, arith, lit<, None, List, ℤ, pos, ◌*ℤ◌, ◌≤ℤ◌, slice_index}
 use Rattle.std.proofs.Math.Nat.{le_of_mul-le-mul_right}
-use Rattle.std.proofs.lemmas.Bool.{cases_lt}
 use Rattle.std.proofs.lemmas.Int.{ints}
 use Rattle.std.proofs.lemmas.Nat.{pow-add}
 use borrow.Author.Differences.{le_out, at_most_in, product_is}
@@ -18,7 +17,7 @@ use Rattle.case_types.specs.Divisions.{State, moles, mole_fraction, mean_attract
 use Rattle.case_types.specs.Holding.{HoldsParameters}
 use Rattle.case_types.specs.Instances.{Instance}
 use Rattle.case_types.specs.Parameters.{attraction}
-use Rattle.log_laws.specs.Sums.{all_below, fraction_sum_below}
+use Rattle.log_laws.specs.Sums.{fraction_sum_below}
 use Rattle.pr_params.proofs.Argument.{positive_between}
 use Rattle.pr_params.proofs.Below.{all_below_at}
 use Rattle.pr_params.proofs.Pull.{by_natural}

@@ -19,13 +19,11 @@ const ONE: u128 = 1 << 40;
 pub fn lam_hi(params: &Params, y: u64) -> i128
     requires { y ≤ 2 ^ 40 }
     ensures value { result ≡ lambda_up (numbers_of params.now.case) y }
-    ensures at_most {
-        (x : Instance) (packing : Fraction) →
+    ensures at_most { (x : Instance) (packing : Fraction) →
         IsInstance params.now.case (enclosures_of params.now.case) x →
         IsPacking packing →
         IsAtMost packing (ratio y (2 ^ 40)) →
-        AtMost (log_of (attraction_argument x.root_two packing)) (bits result)
-    }
+        AtMost (log_of (attraction_argument x.root_two packing)) (bits result) }
     ensures small { unsigned_abs result ≤ 2 ^ 48 }
     ensures low { neg_ℤ (pos (2 ^ 41)) ≤ℤ result }
     ensures high { result ≤ℤ pos (2 ^ 42) }
@@ -39,13 +37,11 @@ pub fn lam_hi(params: &Params, y: u64) -> i128
 pub fn lam_lo(params: &Params, y: u64) -> i128
     requires { y ≤ 2 ^ 40 }
     ensures value { result ≡ lambda_down (numbers_of params.now.case) y }
-    ensures at_least {
-        (x : Instance) (packing : Fraction) →
+    ensures at_least { (x : Instance) (packing : Fraction) →
         IsInstance params.now.case (enclosures_of params.now.case) x →
         IsPacking packing →
         IsAtMost (ratio y (2 ^ 40)) packing →
-        AtLeast (log_of (attraction_argument x.root_two packing)) (bits result)
-    }
+        AtLeast (log_of (attraction_argument x.root_two packing)) (bits result) }
     ensures small { unsigned_abs result ≤ 2 ^ 48 }
     ensures low { neg_ℤ (pos (2 ^ 41)) ≤ℤ result }
     ensures high { result ≤ℤ pos (2 ^ 42) }

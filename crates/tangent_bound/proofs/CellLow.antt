@@ -1,19 +1,18 @@
 -- Every state of a cell lies above the plane by at least the low of the cell.
-use Rattle.std.proofs.Common.{ℕ, zero, suc, ◌+◌, ◌-◌, ◌*◌, ◌^◌, ◌≤◌, ◌<◌, ◌≡◌, true, false, cond, ◌==◌, nat_lt, refl, ap, sym, subst, ◌∙◌, arith, lit<, inl, inr, ℤ, pos, ◌+ℤ◌, ◌-ℤ◌, ◌*ℤ◌, ◌≤ℤ◌, neg_ℤ, slice_index, slice_index_or, List}
-use Rattle.std.proofs.Math.Nat.{mul-le-mul_right, le_of_mul-le-mul_right}
+use Rattle.std.proofs.Common.{ℕ, zero, suc, ◌+◌, ◌-◌, ◌*◌, ◌^◌, ◌≤◌, ◌<◌, ◌≡◌, true, false, cond, ◌==◌, nat_lt, refl, ap, subst, arith, lit<, inl, inr, ℤ, pos, ◌+ℤ◌, ◌-ℤ◌, ◌*ℤ◌, ◌≤ℤ◌, neg_ℤ, slice_index, slice_index_or, List}
+use Rattle.std.proofs.Math.Nat.{le_of_mul-le-mul_right}
 use Rattle.std.proofs.lemmas.Bool.{cases_lt}
 use Rattle.std.proofs.lemmas.Int.{ints}
-use borrow.Author.Differences.{product_is, le_out, at_most_in}
 use Rattle.log_laws.specs.LogSum.{LogSum, AtLeast}
 use Rattle.log_laws.proofs.Exports.{sum_below-scaled, product_pos, mul-le_ℤ, add-mul_ℤ, neg-mul, scale_scale, at_least_lowers}
 use Rattle.case_types.specs.declared.cases.Case.{Case}
-use Rattle.case_types.specs.Bounds.{Box, one, energy_low, plane_high, ratio_high}
+use Rattle.case_types.specs.Bounds.{one, energy_low, plane_high, ratio_high}
 use Rattle.case_types.specs.Cells.{Region, box_of_region, free_sum, plain_low, IsWithin}
 use Rattle.case_types.specs.Divisions.{State, IsState, moles, bits, energy_of}
 use Rattle.case_types.specs.Holding.{HoldsParameters, HoldsMeans, IsInBox}
 use Rattle.case_types.specs.Instances.{Instance}
 use Rattle.case_types.specs.Numbers.{Numbers}
-use Rattle.log_laws.specs.Sums.{sum_below, list_below}
+use Rattle.log_laws.specs.Sums.{sum_below}
 use Rattle.case_types.specs.Weighing.{plane_sum, IsAbovePlane}
 use Rattle.pr_params.proofs.Below.{get_or-list_below}
 use Rattle.pr_params.proofs.Sized.{IsSized}

@@ -1,25 +1,24 @@
 -- The energy of a state of a box is at least the low of the box and of its range of packings.
-use Rattle.std.proofs.Common.{ℕ, zero, suc, ◌+◌, ◌-◌, ◌*◌, ◌^◌, ◌≤◌, ◌<◌, ◌≡◌, refl, ap, sym, subst, ◌∙◌, arith, lit<, inl, inr, ℤ, pos, neg_ℤ, ◌+ℤ◌, ◌-ℤ◌, ◌*ℤ◌, ◌≤ℤ◌, unsigned_abs, slice_index}
+use Rattle.std.proofs.Common.{ℕ, ◌+◌, ◌-◌, ◌*◌, ◌^◌, ◌≤◌, ◌<◌, ◌≡◌, ap, sym, subst, ◌∙◌, arith, lit<, inl, inr, ℤ, pos, neg_ℤ, ◌+ℤ◌, ◌-ℤ◌, ◌*ℤ◌, ◌≤ℤ◌, unsigned_abs, slice_index}
 use Rattle.std.proofs.Math.Nat.{mul-le-mul_right}
 use Rattle.std.proofs.lemmas.Bool.{cases_lt}
 use Rattle.std.proofs.lemmas.Int.{ints}
 use Rattle.std.proofs.lemmas.Nat.{pow_pos}
 use borrow.Author.Differences.{le_out, lt_out}
 use Rattle.log_laws.specs.Between.{Ends, IsBetween}
-use Rattle.log_laws.specs.Fraction.{Fraction, IsFraction, IsAtMost, whole, negated, difference, product_of, quotient_of}
-use Rattle.log_laws.specs.LogSum.{AtLeast, ratio, IsPositive, times_log, added}
+use Rattle.log_laws.specs.Fraction.{Fraction, IsFraction, IsAtMost, whole, negated, difference, quotient_of}
+use Rattle.log_laws.specs.LogSum.{AtLeast, ratio, IsPositive, added}
 use Rattle.log_laws.specs.Squaring.{log_up}
 use Rattle.log_laws.specs.Whole.{ceil_div}
-use Rattle.log_laws.proofs.Exports.{IsParts, parts_one, parts_ratio, parts_sum, parts_negated, parts_respelled, product_pos, le-ceil_over, one, minus_log, at_least_adds_at, by_ratio, order_of_ratios}
+use Rattle.log_laws.proofs.Exports.{IsParts, parts_one, parts_ratio, parts_sum, parts_negated, parts_respelled, le-ceil_over, one, minus_log, at_least_adds_at, by_ratio, order_of_ratios}
 use Rattle.log_enclose.proofs.Exports.{log_up_at_most}
 use Rattle.case_types.specs.declared.cases.Case.{Case}
 use Rattle.case_types.specs.Bounds.{Box, volume_low, mixing_low, covolume_range, ratio_high, lambda_up, energy_low}
-use Rattle.case_types.specs.Divisions.{State, IsState, moles, bits, mole_fraction, mean_covolume, mean_attraction, mixing, volume_part, minus_log_of, log_of, attraction_part, attraction_argument, energy_of}
+use Rattle.case_types.specs.Divisions.{State, IsState, bits, mean_covolume, mean_attraction, mixing, volume_part, minus_log_of, attraction_part, attraction_argument, energy_of}
 use Rattle.case_types.specs.Holding.{HoldsParameters, HoldsMeans, IsInBox}
 use Rattle.case_types.specs.Instances.{Instance}
 use Rattle.case_types.specs.Numbers.{Numbers}
-use Rattle.case_types.specs.Parameters.{attraction}
-use Rattle.log_laws.specs.Sums.{int_sum_below, fraction_sum_below}
+use Rattle.log_laws.specs.Sums.{int_sum_below}
 use Rattle.pr_params.specs.Packings.{IsPacking}
 use Rattle.pr_params.proofs.Argument.{positive_between, packing_positive}
 use Rattle.pr_params.proofs.Lambda.{two_ends, respelled, minus_lambda_least, log_not_negative, argument_positive}

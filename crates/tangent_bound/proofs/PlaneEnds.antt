@@ -4,10 +4,9 @@ use Rattle.std.specs.Int.{int_min, int_max}
 use Rattle.std.proofs.lemmas.Int.{ints, clamps}
 use Rattle.log_laws.specs.Whole.{ceil_div}
 use Rattle.log_laws.proofs.Exports.{floor_over-le, lt-floor_over}
-use Rattle.case_types.specs.declared.cases.Case.{Case}
 use Rattle.case_types.specs.Bounds.{Box, one, energy_low, plane_high}
 use Rattle.case_types.specs.Cells.{Region, box_of_region, plain_low}
-use Rattle.case_types.specs.Numbers.{Numbers, numbers_of}
+use Rattle.case_types.specs.Numbers.{Numbers}
 use Rattle.case_types.specs.Ranges.{is_each_below}
 use Rattle.log_laws.specs.Sums.{greatest_below, int_sum_below}
 

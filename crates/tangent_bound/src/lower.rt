@@ -26,15 +26,13 @@ pub fn low_energy(params: &Params, x: &BoxX, ylo: u64, yhi: u64) -> i128
     requires ordered { ylo < yhi }
     requires inside { yhi ≤ 2 ^ 40 }
     ensures value { result ≡ energy_low (numbers_of params.now.case) (box_of x.now) ylo yhi }
-    ensures at_least {
-        (roots : Instance) (f : State) →
+    ensures at_least { (roots : Instance) (f : State) →
         IsInstance params.now.case (enclosures_of params.now.case) roots →
         IsInBox params.now.case.n (box_of x.now) f →
         IsState params.now.case.n f →
         pos (ylo * f.packing.den) ≤ℤ (f.packing.num *ℤ pos (2 ^ 40)) →
         (f.packing.num *ℤ pos (2 ^ 40)) ≤ℤ pos (yhi * f.packing.den) →
-        AtLeast (energy_of params.now.case roots f) (bits result)
-    }
+        AtLeast (energy_of params.now.case roots f) (bits result) }
     ensures small { unsigned_abs result ≤ 2 ^ 106 }
 {
     let b = b_range(params, x);

@@ -18,13 +18,11 @@ pub fn low_plain(params: &Params, plane: &Plane, cell: &Cell) -> i128
     requires one { params.now.case.n ≡ 1 }
     requires meets { IsFalse (misses params.now.case.n (region_of cell.now)) }
     ensures value { result ≡ plain_low (numbers_of params.now.case) plane.now.lam (region_of cell.now) }
-    ensures above {
-        (roots : Instance) (f : State) →
+    ensures above { (roots : Instance) (f : State) →
         IsInstance params.now.case (enclosures_of params.now.case) roots →
         IsWithin params.now.case.n (region_of cell.now) f →
         IsState params.now.case.n f →
-        IsAbovePlane params.now.case roots (λ i. slice_index_or plane.now.lam i (pos 0)) result f
-    }
+        IsAbovePlane params.now.case roots (λ i. slice_index_or plane.now.lam i (pos 0)) result f }
     ensures small { unsigned_abs result ≤ 2 ^ 107 }
 {
     let x = cell_box(params.case.n, cell);

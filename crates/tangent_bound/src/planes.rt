@@ -13,11 +13,9 @@ use case_types::{BoxX, Plane};
 pub fn plane_hi(n: u8, plane: &Plane, x: &BoxX) -> i128
     requires { n ≡ 1 }
     ensures value { result ≡ plane_high n plane.now.lam (box_of x.now) }
-    ensures above {
-        (f : State) →
+    ensures above { (f : State) →
         IsInBox n (box_of x.now) f →
-        plane_sum n (λ i. slice_index_or plane.now.lam i (pos 0)) f.parts ≤ℤ (result *ℤ pos (moles n f))
-    }
+        plane_sum n (λ i. slice_index_or plane.now.lam i (pos 0)) f.parts ≤ℤ (result *ℤ pos (moles n f)) }
     ensures small { unsigned_abs result < 2 ^ 80 }
 {
     plane.lam[0]

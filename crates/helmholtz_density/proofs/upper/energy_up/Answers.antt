@@ -86,7 +86,7 @@ returns-clause-at_most c = λ roots f inst inside state is.
     let holds = holds_parameters case roots c.args.params.now.accepted inst in
     let means = holds_means case roots box f c.requires.one c.args.params.now.accepted holds inside state in
     let sized = sized_one case box c.requires.one c.args.params.now.accepted
-        (λ i l. each_up_to 4 c.args.x.now.b (2 ^ 40) c.args.x.now.inside i (let s = case.few in omega (arith, l, s))) in
+    (λ i l. each_up_to 4 c.args.x.now.b (2 ^ 40) c.args.x.now.inside i (let s = case.few in omega (arith, l, s))) in
     let some : pos 0 ≤ℤ ratio_low (numbers_of case) box = subst (λ (z : ℤ). pos 0 ≤ℤ z) c.g_lo-ratio.ensures.value c.g_lo-ratio.ensures.low in
     subst (λ (z : ℤ). AtMost (energy_of case roots f) (bits z)) (sym (value_is (goal.at.returns-clause-at_most c).After-pull))
     (energy_at_most case (numbers_of case) roots box f c.args.y sized some c.requires.some c.requires.inside holds means inside state is)
