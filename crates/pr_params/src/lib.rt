@@ -15,6 +15,8 @@ mod numbers;
 mod pulls;
 mod ranges;
 mod readers;
+#[cfg(test)]
+mod tests;
 
 pub use lambdas::{lam_hi, lam_lo};
 pub use making::params;
