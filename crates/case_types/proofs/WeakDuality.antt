@@ -3,7 +3,7 @@ use Rattle.std.proofs.Common.{◌≡◌, ℕ, zero, suc, ◌+◌, ◌*◌, ◌^�
 use Rattle.std.proofs.lemmas.Int.{ints}
 use Rattle.std.specs.List.{All}
 use borrow.Author.Differences.{same_in}
-use Rattle.log_laws.specs.Fraction.{Fraction, IsAtMost, whole, sum_of, product_of, difference}
+use Rattle.log_laws.specs.Fraction.{Fraction, IsAtMost, whole, sum_of, product_of}
 use Rattle.log_laws.specs.LogSum.{AtLeast, ratio, scaled, added}
 use Rattle.case_types.specs.declared.cases.Case.{Case}
 use Rattle.case_types.specs.CaseWords.{feed}

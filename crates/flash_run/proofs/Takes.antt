@@ -1,5 +1,5 @@
 -- At most one byte past the limit is taken, whatever a run comes to.
-use Rattle.std.proofs.Common.{ℕ, ◌≡◌, ◌+◌, ◌≤◌, List, arith}
+use Rattle.std.proofs.Common.{ℕ, ◌+◌, ◌≤◌, List, arith}
 use Rattle.std.specs.declared.option.Option.{Option}
 use Rattle.io_edge.specs.Reading.{TakesAtMost}
 use Rattle.flash_run.specs.declared.ends.End.{End}

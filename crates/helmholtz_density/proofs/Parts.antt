@@ -4,7 +4,6 @@ use Rattle.std.proofs.Math.ListN.{get_or-map, length-map, drop_of_length-le}
 use Rattle.std.proofs.Math.Nat.{eq_of_mul-eq-mul_left}
 use Rattle.std.proofs.Math.Seq.{drop-cons}
 use Rattle.std.proofs.lemmas.Int.{ints}
-use Rattle.std.specs.Prelude.{nat_le}
 use Rattle.pr_params.proofs.Components.{feed_at}
 use Rattle.log_laws.specs.Sums.{sum_below}
 use Rattle.case_types.specs.declared.cases.Case.{Case}

@@ -1,15 +1,15 @@
 -- The energy of a split from those of its phases, at most.
-use Rattle.std.proofs.Common.{ℕ, zero, suc, ◌+◌, ◌-◌, ◌*◌, ◌/◌, ◌^◌, ◌<◌, ◌≤◌, ◌≡◌, sym, ap, subst, List, [], ◌∷◌, map, slice_index, ℤ, pos, negsuc, ◌+ℤ◌, ◌*ℤ◌, ◌≤ℤ◌, arith, lit<}
+use Rattle.std.proofs.Common.{ℕ, suc, ◌+◌, ◌-◌, ◌*◌, ◌^◌, ◌<◌, ◌≤◌, ◌≡◌, sym, ap, subst, List, [], ◌∷◌, map, slice_index, ℤ, pos, negsuc, ◌*ℤ◌, ◌≤ℤ◌, arith, lit<}
 use Rattle.std.proofs.lemmas.Int.{ints}
-use Rattle.std.proofs.Math.Nat.{mul-le-mul_right, mul-le-mul_left, div-mul-le_self, lt-div-mul-add}
-use Rattle.std.specs.Int.{int_min, int_max}
+use Rattle.std.proofs.Math.Nat.{mul-le-mul_right, div-mul-le_self, lt-div-mul-add}
+use Rattle.std.specs.Int.{int_max}
 use Rattle.std.proofs.lemmas.Int.{clamps}
 use borrow.Author.Differences.{up, down, le_out, at_most_in, product_is}
-use Rattle.log_laws.specs.Fraction.{Fraction, IsAtMost, product_of, sum_of, whole}
+use Rattle.log_laws.specs.Fraction.{IsAtMost, product_of, whole}
 use Rattle.log_laws.specs.LogSum.{AtMost, ratio, scaled, constant}
-use Rattle.log_laws.specs.Whole.{ceil_quotient, ceil_over}
+use Rattle.log_laws.specs.Whole.{ceil_quotient}
 use Rattle.log_laws.specs.Sums.{sum_below}
-use Rattle.log_laws.proofs.Exports.{up-mul, down-mul, le-ceil_over, ≤ℤ_trans, mul-le_ℤ, neg-mul, product_pos, heightened, at_most_adds_at, at_most_scales, at_most_raises, constant_at_most, parts_self, at_most_of_parts}
+use Rattle.log_laws.proofs.Exports.{le-ceil_over, heightened, at_most_adds_at, at_most_scales, at_most_raises, constant_at_most, parts_self}
 use Rattle.case_types.specs.Bounds.{share_down, share_up, share_of_energy, phases_up, phase_up}
 use Rattle.case_types.specs.declared.cases.Case.{Case}
 use Rattle.case_types.specs.declared.phases.Phase.{Phase}

@@ -1,17 +1,16 @@
 -- The energy of a split of one component is at most the sum of the upper energies of its phases.
-use Rattle.std.proofs.Common.{ℕ, zero, suc, ◌+◌, ◌-◌, ◌*◌, ◌/◌, ◌^◌, ◌≤◌, ◌<◌, ◌≡◌, refl, subst, sym, ap, arith, lit<, None, pos, ℤ, ◌≤ℤ◌, cond, nat_lt, ◌∙◌, slice_index, List, [], ◌∷◌, map, length}
+use Rattle.std.proofs.Common.{ℕ, suc, ◌*◌, ◌^◌, ◌≤◌, ◌<◌, ◌≡◌, refl, subst, sym, arith, None, cond, nat_lt, ◌∙◌, slice_index, List, [], ◌∷◌, map}
 use Rattle.std.proofs.lemmas.Int.{ints}
 use Rattle.std.proofs.Math.Nat.{div-mul-le_self}
 use Rattle.std.specs.List.{All}
-use Rattle.log_laws.specs.LogSum.{AtMost, ratio}
-use Rattle.log_laws.specs.Sums.{sum_below, list_below}
-use Rattle.log_laws.specs.Whole.{ceil_quotient}
+use Rattle.log_laws.specs.LogSum.{AtMost}
+use Rattle.log_laws.specs.Sums.{list_below}
 use Rattle.log_laws.proofs.Exports.{le-sum_below}
 use Rattle.case_types.specs.declared.cases.Case.{Case}
 use Rattle.case_types.specs.declared.phases.Phase.{Phase}
 use Rattle.case_types.specs.declared.phases.Split.{Split}
 use Rattle.case_types.specs.Bounds.{one, box_of_parts, share_down, share_up, energy_up, phase_up, split_up}
-use Rattle.case_types.specs.Divisions.{State, IsState, moles, bits, energy_of, energy_of_division, Divides, division_of, state_of}
+use Rattle.case_types.specs.Divisions.{IsState, moles, bits, energy_of, energy_of_division, Divides, division_of, state_of}
 use Rattle.case_types.specs.Faults.{fault_of}
 use Rattle.case_types.specs.Holding.{IsInBox}
 use Rattle.case_types.specs.Instances.{Instance, IsInstance}
@@ -69,9 +68,10 @@ phase_at_most c x f one accepted inst state =
 each_below : (c : Case) (x : Instance) (fs : List Phase) → c.n ≡ 1 → fault_of c ≡ None → IsInstance c (enclosures_of c) x → All (IsState c.n) (map state_of fs) →
     AreBelow c x (numbers_of c) fs
 each_below c x [] one accepted inst states = tt
-each_below c x (f ∷ fs) one accepted inst states =
-    (phase_at_most c x f one accepted inst (states 0 (state_of f) (omega arith)),
-    each_below c x fs one accepted inst (λ k d l. states (suc k) d (omega (arith, l))))
+each_below c x (f ∷ fs) one accepted inst states = (
+  phase_at_most c x f one accepted inst (states 0 (state_of f) (omega arith)),
+  each_below c x fs one accepted inst (λ k d l. states (suc k) d (omega (arith, l))),
+)
 
 pub split_at_most : (c : Case) (x : Instance) (s : Split) → c.n ≡ 1 → fault_of c ≡ None → IsInstance c (enclosures_of c) x → Divides c (division_of s) →
     AtMost (energy_of_division c x (division_of s)) (bits (split_up (numbers_of c) s))

@@ -1,14 +1,14 @@
 -- A share of an energy, and the box of a phase of one component, as the code computes them.
-use Rattle.std.proofs.Common.{ℕ, zero, suc, ◌+◌, ◌-◌, ◌*◌, ◌/◌, ◌^◌, ◌<◌, ◌≤◌, ◌≡◌, refl, sym, ap, ap₂, List, [], ◌∷◌, ℤ, pos, negsuc, neg_ℤ, ◌+ℤ◌, ◌*ℤ◌, ◌≤ℤ◌, ◌<ℤ◌, slice_index, arith, lit<}
+use Rattle.std.proofs.Common.{ℕ, suc, ◌+◌, ◌-◌, ◌*◌, ◌/◌, ◌^◌, ◌<◌, ◌≤◌, ◌≡◌, refl, List, [], ◌∷◌, ℤ, pos, negsuc, neg_ℤ, ◌+ℤ◌, ◌*ℤ◌, ◌≤ℤ◌, ◌<ℤ◌, slice_index, arith, lit<}
 use Rattle.std.proofs.lemmas.Int.{ints, clamps}
 use Rattle.std.proofs.Math.Nat.{mul-le-mul_right, mul-div_cancel_left, div-mul-le_self, lt-div-mul-add}
 use Rattle.std.proofs.lemmas.Nat.{div-mul-add}
 use Rattle.std.specs.Int.{int_max}
 use borrow.Author.Differences.{product_is}
 use Rattle.log_laws.specs.Sums.{sum_below, list_below}
-use Rattle.log_laws.specs.Whole.{ceil_quotient, ceil_div, floor_div, ceil_over, floor_over}
-use Rattle.log_laws.proofs.Exports.{le-ceil_over, lt-floor_over, floor_over-le, mul-add_ℤ, add-mul_ℤ, mul_assoc_ℤ}
-use Rattle.case_types.specs.Bounds.{Box, one, box_of_parts, share_down, share_up}
+use Rattle.log_laws.specs.Whole.{ceil_quotient, ceil_over, floor_over}
+use Rattle.log_laws.proofs.Exports.{lt-floor_over, floor_over-le, mul-add_ℤ, add-mul_ℤ, mul_assoc_ℤ}
+use Rattle.case_types.specs.Bounds.{Box, one, box_of_parts}
 
 -- ---- the box of one component is that of its pure composition
 whole_share : (k : ℕ) → 1 ≤ k → k * one / (0 + k) ≡ one

@@ -35,11 +35,9 @@ pub fn split_energy(params: &Params, split: &Split) -> i128
     requires one { params.now.case.n ≡ 1 }
     requires divides { Divides params.now.case (division_of split.now) }
     ensures value { result ≡ split_up (numbers_of params.now.case) split.now }
-    ensures at_most {
-        (roots : Instance) →
+    ensures at_most { (roots : Instance) →
         IsInstance params.now.case (enclosures_of params.now.case) roots →
-        AtMost (energy_of_division params.now.case roots (division_of split.now)) (bits result)
-    }
+        AtMost (energy_of_division params.now.case roots (division_of split.now)) (bits result) }
 {
     let mut energy = 0;
     for phase in split.phases.iter() {

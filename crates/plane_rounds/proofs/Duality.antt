@@ -1,15 +1,14 @@
 -- An answer is certified: its low is a low of every state, so the plane and the low bound every division.
-use Rattle.std.proofs.Common.{ℕ, ◌+◌, ◌-◌, ◌*◌, ◌/◌, ◌^◌, ◌≤◌, ◌<◌, ◌≡◌, ◌⊎◌, inl, inr, refl, sym, ap, subst, ◌∙◌, arith, lit<, None, true, false, Bool, IsTrue, IsFalse, ◌==◌, if◌then◌else◌, List, ℤ, pos, ◌+ℤ◌, ◌-ℤ◌, ◌*ℤ◌, ◌≤ℤ◌, slice_index, slice_index_or, slice_set}
+use Rattle.std.proofs.Common.{ℕ, ◌*◌, ◌^◌, ◌≤◌, ◌<◌, ◌≡◌, inl, inr, refl, subst, arith, lit<, None, true, false, Bool, IsTrue, ◌==◌, if◌then◌else◌, List, ℤ, pos, ◌+ℤ◌, ◌-ℤ◌, ◌*ℤ◌, ◌≤ℤ◌, slice_index_or, slice_set}
 use Rattle.std.proofs.lemmas.Int.{ints}
 use Rattle.log_laws.specs.Fraction.{IsAtMost}
-use Rattle.log_laws.specs.LogSum.{AtLeast, AtMost}
 use Rattle.log_laws.proofs.Exports.{at_least_lowers, floor_over-le, mul-le_ℤ, add-mul_ℤ, scale_scale, product_pos}
 use Rattle.case_types.specs.declared.answers.Answer.{Answer}
 use Rattle.case_types.specs.declared.cases.Case.{Case}
 use Rattle.case_types.specs.Answers.{IsAnswer}
-use Rattle.case_types.specs.Bounds.{plane_at, plane_times, split_up, one}
+use Rattle.case_types.specs.Bounds.{plane_at, plane_times, one}
 use Rattle.case_types.specs.Cells.{Region, Tree, Leaf, Node, Misses, Plain, Sloped, root_region, lower_half, upper_half, cut, packing_edge, misses, plain_low, slope_low, IsTreeOver, IsOver, IsWithin}
-use Rattle.case_types.specs.Divisions.{State, IsState, Division, Divides, moles, bits, energy_of, energy_of_division, division_of, Certified}
+use Rattle.case_types.specs.Divisions.{State, IsState, moles, bits, energy_of, energy_of_division, division_of, Certified}
 use Rattle.case_types.specs.Faults.{fault_of}
 use Rattle.case_types.specs.Instances.{Instance, IsInstance}
 use Rattle.case_types.specs.Numbers.{numbers_of, enclosures_of}

@@ -1,13 +1,12 @@
 -- The attraction over the co-volume of one component isn't negative, at either end.
-use Rattle.std.proofs.Common.{ℕ, ◌*◌, ◌/◌, ◌^◌, ◌<◌, ◌≡◌, refl, sym, ap, ◌∙◌, None, ℤ, pos, negsuc, ◌≤ℤ◌, arith}
-use Rattle.std.specs.Int.{int_min, int_max}
+use Rattle.std.proofs.Common.{ℕ, ◌<◌, ◌≡◌, refl, sym, ap, ◌∙◌, None, ℤ, pos, negsuc, ◌≤ℤ◌, arith}
 use Rattle.std.proofs.lemmas.Int.{ints, clamps}
 use Rattle.log_laws.specs.Between.{Ends}
 use Rattle.case_types.specs.declared.cases.Case.{Case}
 use Rattle.case_types.specs.Bounds.{Box, covolume_range, ratio_low, ratio_high}
 use Rattle.case_types.specs.Faults.{fault_of}
 use Rattle.case_types.specs.Numbers.{numbers_of}
-use Rattle.pr_params.specs.One.{covolume_one, attraction_one, ratio_one}
+use Rattle.pr_params.specs.One.{covolume_one, attraction_one}
 use Rattle.pr_params.proofs.Accepted.{covolume_sizes, attraction_positive, attraction_high_positive, rho_one}
 use Rattle.pr_params.proofs.Mean.{range_is, hi_positive, attraction_low_one, attraction_high_one, ratio_low_is, ratio_high_is}
 

@@ -1,8 +1,8 @@
 -- A cell of one component, by its case alone: every state in it lies above the plane by the low of the cell.
-use Rattle.std.proofs.Common.{ℕ, zero, suc, ◌+◌, ◌-◌, ◌*◌, ◌^◌, ◌≤◌, ◌<◌, ◌≡◌, subst, sym, arith, None, pos, slice_index, slice_index_or, List, ℤ}
+use Rattle.std.proofs.Common.{ℕ, zero, suc, ◌^◌, ◌≤◌, ◌<◌, ◌≡◌, subst, sym, arith, None, pos, slice_index, slice_index_or, List, ℤ}
 use Rattle.case_types.specs.declared.cases.Case.{Case}
 use Rattle.case_types.specs.Bounds.{one}
-use Rattle.case_types.specs.Cells.{Region, box_of_region, free_sum, plain_low, IsWithin}
+use Rattle.case_types.specs.Cells.{Region, box_of_region, plain_low, IsWithin}
 use Rattle.case_types.specs.Divisions.{State, IsState}
 use Rattle.case_types.specs.Faults.{fault_of}
 use Rattle.case_types.specs.Instances.{Instance, IsInstance}

@@ -1,7 +1,7 @@
-use Rattle.std.proofs.Common.{ℕ, ◌≡◌, ◌+◌, ◌*◌, ◌^◌, ◌<◌, ◌≤◌, IsTrue, slice_index, arith, refl, below_more}
+use Rattle.std.proofs.Common.{ℕ, ◌≡◌, ◌*◌, ◌^◌, ◌<◌, ◌≤◌, slice_index, arith, refl, below_more}
 use Rattle.std.proofs.Math.Nat.{mul-le-mul}
 use Rattle.log_laws.proofs.Exports.{le-sum_below}
-use Rattle.case_types.specs.Divisions.{AddsUp, division_of, parts_in}
+use Rattle.case_types.specs.Divisions.{division_of, parts_in}
 use Rattle.case_types.specs.CaseWords.{feed}
 use Rattle.case_types.proofs.adding.adds_up.Goals as goal
 

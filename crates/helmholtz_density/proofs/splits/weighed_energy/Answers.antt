@@ -1,14 +1,13 @@
-use Rattle.std.proofs.Common.{ℕ, ◌≡◌, ◌≤◌, ◌<◌, ◌+◌, ◌*◌, ◌/◌, ◌^◌, ℤ, ◌*ℤ◌, pos, ◌≤ℤ◌, ◌<ℤ◌, to_z, of_z, slice_index, refl, arith, rules, Bool, true, false}
+use Rattle.std.proofs.Common.{ℕ, ◌≡◌, ◌<◌, ◌*◌, ◌/◌, ◌^◌, ℤ, ◌*ℤ◌, pos, to_z, of_z, slice_index, refl, arith, rules, true, false}
 use Rattle.std.proofs.lemmas.Int.{ints}
 use Rattle.std.specs.Prelude.{int_le}
 use mir.Syntax.{w128}
 use Rattle.log_laws.specs.Whole.{ceil_quotient, ceil_div}
-use Rattle.log_laws.specs.Sums.{sum_below}
 use Rattle.case_types.specs.declared.cases.Case.{Case}
 use Rattle.case_types.specs.declared.phases.Phase.{Phase}
 use Rattle.case_types.specs.Bounds.{Box, share_of_energy, phase_up, energy_up, box_of_parts}
 use Rattle.pr_params.specs.Boxes.{box_of}
-use Rattle.case_types.specs.Numbers.{Numbers, numbers_of}
+use Rattle.case_types.specs.Numbers.{numbers_of}
 use Rattle.helmholtz_density.proofs.Weighed.{share_above_zero, share_below_zero}
 use Rattle.pr_params.proofs.Sizes.{floor-le-ceiling}
 use Rattle.helmholtz_density.proofs.splits.weighed_energy.Goals as goal
