@@ -1,4 +1,5 @@
 pub mod Cover
+pub mod Walks
 pub mod WeakDuality
 pub mod Samples
 mod ByNumbers
