@@ -12,7 +12,7 @@ use Rattle.case_types.specs.declared.phases.Phase.{Phase}
 use Rattle.case_types.specs.Bounds.{energy_up, plane_at, plane_times, phases_up, share_of_energy, box_of_parts}
 use Rattle.case_types.specs.Columns.{point_box}
 use Rattle.case_types.specs.Numbers.{Numbers}
-use Rattle.log_laws.specs.Sums.{int_sum_below, sum_below, all_below}
+use Rattle.log_laws.specs.Sums.{int_sum_below, sum_below, all_below, list_below}
 
 -- a whole share of an energy is the energy
 whole_share : (u : ℤ) → share_of_energy 1 1 u ≡ u
@@ -38,6 +38,7 @@ phases_are p f = refl
 -- one part of one component in one phase
 pub one_phase_up : (p : Numbers) (f : Phase) (u : ℤ) → p.count ≡ 1 → f.parts ≡ 1 ∷ 0 ∷ 0 ∷ 0 ∷ [] → u ≡ energy_up p (point_box (2 ^ 20 ∷ 0 ∷ 0 ∷ 0 ∷ [])) f.packing →
     u ≡ phases_up p 1 (f ∷ [])
+unfolding list_below
 one_phase_up p f u n parts e =
     let up : ℤ = energy_up p (point_box (2 ^ 20 ∷ 0 ∷ 0 ∷ 0 ∷ [])) f.packing in
     let alone : phase_alone p f 1 ≡ share_of_energy 1 1 up +ℤ pos 0 = rw parts refl in
@@ -51,7 +52,7 @@ floor_multiple (negsuc n) (suc k) h =
     let e : pos 0 +ℤ negsuc n *ℤ pos (suc k) ≡ negsuc (n * suc k + k) = omega (arith, ints) in
     rw e (ap negsuc (div-mul-add n (suc k) k (omega arith)))
 
-at_one : (lam : List ℤ) (z : List ℕ) (total : ℕ) → slice_index z 0 ≡ total → 0 < total → plane_at 1 lam z total ≡ slice_index_or lam 0 (pos 0)
+pub at_one : (lam : List ℤ) (z : List ℕ) (total : ℕ) → slice_index z 0 ≡ total → 0 < total → plane_at 1 lam z total ≡ slice_index_or lam 0 (pos 0)
 unfolding plane_at plane_times int_sum_below
 at_one lam z total same some = rw same (floor_multiple (slice_index_or lam 0 (pos 0)) total some)
 
