@@ -4,6 +4,7 @@ use Rattle.case_types.specs.declared.answers.Answer.{Answer}
 use Rattle.case_types.specs.declared.answers.Outcome.{Outcome}
 use Rattle.case_types.specs.declared.answers.Outcome.TheVariants.{Closed, Spent, Grain}
 use Rattle.case_types.specs.Answers.{IsAnswer}
+use Rattle.case_types.specs.Lawful.{IsLawful}
 use Rattle.pr_params.specs.declared.numbers.Params.{Params}
 use Rattle.io_edge.specs.Causes.{CountsFault}
 use Rattle.flash_run.specs.declared.ends.End.{End}
@@ -29,7 +30,7 @@ IsReportable Read = Unit {0}
 IsReportable Memory = Unit {0}
 IsReportable (Flash params tol answer) = params.case.n ≡ 1
 
--- a flash of one component into one phase: the answer of its case, at its tolerance and some budget
+-- a flash of one component into one phase: the answer of its case, at its tolerance and some budget, with its list of work
 pub record IsFlash (p : Params) (tol : ℕ) (a : Answer) : Type 0 where
   pub one : p.case.n ≡ 1
   pub one_phase : length a.split.phases.items ≡ 1
@@ -39,6 +40,7 @@ pub record IsFlash (p : Params) (tol : ℕ) (a : Answer) : Type 0 where
   pub budget_low : 1 ≤ budget
   pub budget_high : budget ≤ 10000000
   pub answer : IsAnswer p.case tol budget a
+  pub lawful : IsLawful p.case tol budget a
 
 -- what a flash that is reported is
 abbrev pub IsFlashed : End → Type 0
