@@ -15,5 +15,6 @@ pub mod Searches
 pub mod Bases
 pub mod Rounds
 pub mod Lawful
+pub mod WorkLaws
 pub mod Weighing
 pub mod Holding

@@ -51,7 +51,7 @@ quarter_of tol = pos (tol * 2 ^ 18)
 pub record IsFair (c : Case) (tol : ℕ) (cols : List Column) (basis : Column) (r : Round) : Type 0 where
   pub plane : r.plane.lam ≡ plane_over basis
   pub dear_enough : AreDearEnough basis cols
-  pub no_deeper : All (λ (col : Column). plane_at_point c.n r.plane.lam (point_of col) ≤ℤ (col.up +ℤ quarter_of tol)) cols
+  pub no_deeper : All (λ (col : Column). plane_at_point (numbers_of c).count r.plane.lam (point_of col) ≤ℤ (col.up +ℤ quarter_of tol)) cols
   pub near : r.u ≤ℤ (plane_at c.n r.plane.lam c.z c.total +ℤ quarter_of tol)
 
 -- a round whose plane is searched

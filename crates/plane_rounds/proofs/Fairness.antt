@@ -26,9 +26,9 @@ pub column_cost : (p : Numbers) (col : Column) → IsColumn p col → (col.up �
 column_cost p col h = cost_covers col.up col.cost h.cost
 
 -- at a column the plane is its one number
-pub plane_at_column : (p : Numbers) (n : ℕ) (lam : List ℤ) (col : Column) → n ≡ 1 → p.count ≡ n → IsColumn p col → plane_at_point n lam (point_of col) ≡ slice_index_or lam 0 (pos 0)
-plane_at_column p n lam col one count h =
-    let whole : 0 + slice_index col.comp 0 ≡ 2 ^ 20 = subst (λ k. sum_below k (slice_index col.comp) ≡ 2 ^ 20) (count ∙ one) h.point.whole in
+pub plane_at_column : (p : Numbers) (lam : List ℤ) (col : Column) → p.count ≡ 1 → IsColumn p col → plane_at_point p.count lam (point_of col) ≡ slice_index_or lam 0 (pos 0)
+plane_at_column p lam col one h =
+    let whole : 0 + slice_index col.comp 0 ≡ 2 ^ 20 = subst (λ k. sum_below k (slice_index col.comp) ≡ 2 ^ 20) one h.point.whole in
     ap (λ k. plane_at_point k lam (point_of col)) one ∙ at_one lam col.comp (2 ^ 20) (omega (arith, whole)) (lit< tt)
 
 not_deeper : (tol : ℕ) (basis col at : ℤ) (up : ℤ) → 1 ≤ tol → pos 0 ≤ℤ (col -ℤ basis) → at ≡ basis *ℤ pos (2 ^ 10) → (col *ℤ pos (2 ^ 10)) <ℤ (up +ℤ pos (2 ^ 10)) → at ≤ℤ (up +ℤ quarter_of tol)
@@ -49,7 +49,7 @@ fair c tol cols basis r one some all b dear e u = record {
       (plane_at_feed c r.plane.lam one ∙ ap (λ lam. slice_index_or lam 0 (pos 0)) e) (column_cost (numbers_of c) basis b).0);
 }
   where
-    each : (col : Column) → IsColumn (numbers_of c) col → pos 0 ≤ℤ reduced_cost basis col → plane_at_point c.n r.plane.lam (point_of col) ≤ℤ (col.up +ℤ quarter_of tol)
+    each : (col : Column) → IsColumn (numbers_of c) col → pos 0 ≤ℤ reduced_cost basis col → plane_at_point (numbers_of c).count r.plane.lam (point_of col) ≤ℤ (col.up +ℤ quarter_of tol)
     each col k d =
-        not_deeper tol basis.cost col.cost (plane_at_point c.n r.plane.lam (point_of col)) col.up some d
-        (plane_at_column (numbers_of c) c.n r.plane.lam col one (count_is c) k ∙ ap (λ lam. slice_index_or lam 0 (pos 0)) e) (column_cost (numbers_of c) col k).1
+        not_deeper tol basis.cost col.cost (plane_at_point (numbers_of c).count r.plane.lam (point_of col)) col.up some d
+        (plane_at_column (numbers_of c) r.plane.lam col (count_is c ∙ one) k ∙ ap (λ lam. slice_index_or lam 0 (pos 0)) e) (column_cost (numbers_of c) col k).1

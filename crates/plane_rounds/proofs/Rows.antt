@@ -156,7 +156,7 @@ pub cheaper : (c : Case) (tol : ℕ) (lam : List ℤ) (basis kept : Column) → 
 cheaper c tol lam basis kept one some e column h =
     cheaper_cost tol basis.cost kept.cost kept.up (plane_at_point (numbers_of c).count lam (point_of kept)) some (column_cost (numbers_of c) kept column).1
     (rw column.up h.below)
-    (plane_at_column (numbers_of c) (numbers_of c).count lam kept (count_is c ∙ one) refl column ∙ ap (λ l. slice_index_or l 0 (pos 0)) e)
+    (plane_at_column (numbers_of c) lam kept (count_is c ∙ one) column ∙ ap (λ l. slice_index_or l 0 (pos 0)) e)
 
 -- the lists with one column more
 enters_last : (cols new : List Column) (basis kept : Column) → new ≡ cols ++ kept ∷ [] → AreDearEnough basis cols → kept.cost <ℤ basis.cost →
