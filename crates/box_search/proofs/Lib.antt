@@ -3,3 +3,5 @@ pub mod Letters
 pub mod Root
 pub mod Pure
 pub mod Trees
+pub mod SoFar
+pub mod Causes

@@ -4,6 +4,7 @@ use Rattle.case_types.specs.Answers.{IsGrain}
 use Rattle.case_types.specs.Cells.{Region, region_of, root_region, plain_low, IsOver}
 use Rattle.case_types.specs.Columns.{IsColumn, Refutes, point_of}
 use Rattle.case_types.specs.Numbers.{Numbers}
+use Rattle.case_types.specs.Searches.{SearchEnd, EndsClear, EndsRefuted, EndsSpent, EndsGrain}
 use Rattle.case_types.specs.declared.units.Units.{Units}
 use Rattle.box_search.specs.declared.found.Found.{Found}
 use Rattle.box_search.specs.declared.found.Found.TheVariants.{AllClear, Refuted, Spent, Grain}
@@ -58,3 +59,10 @@ IsPure (AllClear low) = Unit {0}
 IsPure (Refuted column) = column.comp ≡ 2 ^ 20 ∷ 0 ∷ 0 ∷ 0 ∷ []
 IsPure (Spent low) = Unit {0}
 IsPure (Grain low cell) = Unit {0}
+
+-- the answer as an end of a search
+abbrev pub search_end : Found → SearchEnd
+search_end (AllClear low) = EndsClear low
+search_end (Refuted column) = EndsRefuted column
+search_end (Spent low) = EndsSpent low
+search_end (Grain low cell) = EndsGrain low cell

@@ -1,6 +1,7 @@
 //! Columns at grid points.
 
-ghost use Rattle.std.specs.Prelude.{◌≡◌, ◌≤◌, ◌<◌, ◌^◌, [], ◌∷◌, ◌↔◌, IsTrue, IsSome, IfSome, pos, ◌≤ℤ◌, ◌<ℤ◌, ◌+ℤ◌, unsigned_abs, IsNone};
+ghost use Rattle.std.specs.Prelude.{◌≡◌, ◌≤◌, ◌<◌, ◌^◌, [], ◌∷◌, ◌↔◌, IsTrue, IsSome, IfSome, pos, ◌≤ℤ◌, ◌<ℤ◌, ◌+ℤ◌, unsigned_abs, IfNone};
+ghost use Rattle.case_types.specs.Bases.{pure_composition};
 ghost use Rattle.log_laws.specs.Whole.{ceil_over};
 ghost use Rattle.case_types.specs.Columns.{IsColumn, point_up, point_of, plane_at_point};
 ghost use Rattle.case_types.specs.Numbers.{numbers_of};
@@ -21,6 +22,7 @@ pub fn column_at(params: &Params, packing: u64) -> Option<Column>
     ensures comp { IfSome result (λ c. c.comp ≡ 2 ^ 20 ∷ 0 ∷ 0 ∷ 0 ∷ []) }
     ensures packing { IfSome result (λ c. c.packing ≡ packing) }
     ensures at_half { packing ≡ 2 ^ 39 → IsSome result }
+    ensures none { IfNone result (2 ^ 49 ≤ unsigned_abs (point_up (numbers_of params.now.case) (record { composition = pure_composition; packing = packing }))) }
 {
     let ends = [1 << 40, 0, 0, 0];
     let up = energy_up(params, &BoxX { a: ends, b: ends }, packing);

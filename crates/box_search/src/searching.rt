@@ -1,12 +1,13 @@
 //! The search.
 
-ghost use Rattle.std.specs.Prelude.{◌≡◌, ◌≤◌, ◌<◌, ◌+◌, ◌-◌, ◌*◌, ◌^◌, ◌↔◌, List, ℤ, [], ◌∷◌, length, IsTrue, IsFalse, IfSome, IfNone, IsNone, pos, neg_ℤ, ◌≤ℤ◌, ◌<ℤ◌, unsigned_abs};
+ghost use Rattle.std.specs.Prelude.{◌≡◌, ◌≤◌, ◌<◌, ◌+◌, ◌-◌, ◌*◌, ◌^◌, ◌↔◌, List, ℤ, [], ◌∷◌, length, IsTrue, IsFalse, IfSome, IfNone, Some, pos, neg_ℤ, ◌≤ℤ◌, ◌<ℤ◌, unsigned_abs};
 ghost use Rattle.std.specs.Int.{int_min};
-ghost use Rattle.case_types.specs.Cells.{Region, region_of, plain_low};
+ghost use Rattle.case_types.specs.Cells.{Region, region_of, plain_low, midpoint as middle_of_region};
+ghost use Rattle.case_types.specs.Searches.{MiddleRefutes};
 ghost use Rattle.case_types.specs.Columns.{IsColumn, Refutes, point_of};
 ghost use Rattle.case_types.specs.Numbers.{numbers_of};
 ghost use Rattle.box_search.specs.Found.{IsFound, IsPure, AreOver, IsLowest, IsRootOpen, low_of, units_of};
-ghost use Rattle.box_search.specs.Written.{Writes, WritesSome};
+ghost use Rattle.box_search.specs.Written.{Writes, WritesSome, Closes, Searches};
 
 use crate::found::Found;
 use crate::points::{column_at, refutes};
@@ -40,6 +41,7 @@ pub fn search(
     ensures root { IsRootOpen (numbers_of params.now.case) plane.now.lam delta result }
     ensures lowest { IsLowest (numbers_of params.now.case) plane.now.lam result }
     ensures letters { Writes letters.old letters.new (units.new.spent - units.old.spent) }
+    ensures searched { Searches (numbers_of params.now.case) plane.now.lam delta letters.old.items letters.new.items (units.new.spent - units.old.spent) result }
     ensures budget { units.new.budget ≡ units.old.budget }
     ensures spent { units.old.spent + units_of result ≤ units.new.spent }
 {
@@ -81,6 +83,8 @@ fn refuting(params: &Params, plane: &Plane, delta: i128, cell: &Cell) -> Option<
     ensures column { IfSome result (λ c. IsColumn (numbers_of params.now.case) c) }
     ensures pure { IfSome result (λ c. c.comp ≡ 2 ^ 20 ∷ 0 ∷ 0 ∷ 0 ∷ []) }
     ensures refutes { IfSome result (λ c. Refutes (numbers_of params.now.case) plane.now.lam delta (point_of c)) }
+    ensures middle { IfSome result (λ c. middle_of_region (numbers_of params.now.case).count (region_of cell.now) ≡ Some (point_of c)) }
+    ensures none { IfNone result (MiddleRefutes (numbers_of params.now.case) plane.now.lam delta (region_of cell.now) → ⊥) }
 {
     let (_, packing) = midpoint(params.case.n, cell)?;
     let column = column_at(params, packing)?;
@@ -100,6 +104,7 @@ fn close(params: &Params, plane: &Plane, low: i128, letters: &mut Letters, mut s
     ensures over { AreOver (numbers_of params.now.case) plane.now.lam result stack }
     ensures small { unsigned_abs result ≤ 2 ^ 107 }
     ensures letters { WritesSome letters.old letters.new (length stack + 1) }
+    ensures closes { Closes (numbers_of params.now.case) plane.now.lam low stack letters.old.items letters.new.items result }
 {
     letters.push(b'p');
     let mut low = low;

@@ -10,12 +10,12 @@ use Rattle.case_types.specs.Bounds.{one}
 use Rattle.case_types.specs.Cells.{Region, root_region, free_sum, misses, packing_edge, cut, lower_half, upper_half, Tree, Leaf, Node, Visit, visits, IsWithin, IsLeafAt, HasVisit, TreesCover}
 use Rattle.case_types.specs.Divisions.{State, IsState, moles}
 
-has-left : (P : Visit → Type 0) (us vs : List Visit) → HasVisit P us → HasVisit P (us ++ vs)
+pub has-left : (P : Visit → Type 0) (us vs : List Visit) → HasVisit P us → HasVisit P (us ++ vs)
 has-left P [] vs h = absurd h
 has-left P (u ∷ us) vs (inl p) = inl p
 has-left P (u ∷ us) vs (inr h) = inr (has-left P us vs h)
 
-has-right : (P : Visit → Type 0) (us vs : List Visit) → HasVisit P vs → HasVisit P (us ++ vs)
+pub has-right : (P : Visit → Type 0) (us vs : List Visit) → HasVisit P vs → HasVisit P (us ++ vs)
 has-right P [] vs h = h
 has-right P (u ∷ us) vs h = inr (has-right P us vs h)
 
@@ -27,7 +27,7 @@ set_holds P (x ∷ xs) zero a h p (suc j) = h (suc j)
 set_holds P (x ∷ xs) (suc i) a h p zero = h 0
 set_holds P (x ∷ xs) (suc i) a h p (suc j) = set_holds (λ j v. P (suc j) v) xs i a (λ j. h (suc j)) p j
 
-total : (a b : ℤ) → (a ≤ℤ b) ⊎ (b ≤ℤ a)
+pub total : (a b : ℤ) → (a ≤ℤ b) ⊎ (b ≤ℤ a)
 total a b =
     elim (cases_lt (up a + down b) (up b + down a)) [
       | inl l ↦ inl (omega (arith, ints, l))

@@ -1,4 +1,6 @@
 pub mod Cover
+pub mod Walks
+pub mod WorkLaws
 pub mod WeakDuality
 pub mod Samples
 mod ByNumbers

@@ -11,5 +11,10 @@ pub mod Bounds
 pub mod Cells
 pub mod Columns
 pub mod Answers
+pub mod Searches
+pub mod Bases
+pub mod Rounds
+pub mod Lawful
+pub mod WorkLaws
 pub mod Weighing
 pub mod Holding

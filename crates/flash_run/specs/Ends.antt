@@ -1,12 +1,12 @@
 -- What an end says of its status, of its answer and of the source.
-use Rattle.std.specs.Prelude.{◌≡◌, ℕ, ◌+◌, ◌≤◌, ◌⊎◌, List, length}
+use Rattle.std.specs.Prelude.{◌≡◌, ℕ, ◌+◌, ◌*◌, ◌^◌, ◌≤◌, ◌⊎◌, List, length, pos, ◌≤ℤ◌}
 use Rattle.std.specs.declared.option.Option.{Option}
 use Rattle.case_types.specs.declared.answers.Answer.{Answer}
 use Rattle.case_types.specs.declared.answers.Outcome.{Outcome}
 use Rattle.case_types.specs.declared.answers.Outcome.TheVariants.{Closed, Spent, Grain}
-use Rattle.case_types.specs.Answers.{IsAnswer}
 use Rattle.case_types.specs.Divisions.{Certified, division_of}
 use Rattle.pr_params.specs.Kept.{pairs_kept}
+use Rattle.case_types.specs.Lawful.{IsLawful}
 use Rattle.pr_params.specs.declared.numbers.Params.{Params}
 use Rattle.io_edge.specs.Causes.{CountsFault}
 use Rattle.io_edge.specs.Reading.{TakesAtMost, TakesExactly}
@@ -35,7 +35,8 @@ IsReportable TooLong = Unit {0}
 IsReportable Memory = Unit {0}
 IsReportable (Flash params tol answer) = params.case.n ≡ 1
 
--- a flash of one component into one phase: the certified answer of its case, at its tolerance and some budget
+-- a flash of one component into one phase: the certified answer of its case, at its tolerance and some budget, with its
+-- list of work
 pub record IsFlash (p : Params) (tol : ℕ) (a : Answer) : Type 0 where
   pub one : p.case.n ≡ 1
   pub one_phase : length a.split.phases.items ≡ 1
@@ -44,9 +45,10 @@ pub record IsFlash (p : Params) (tol : ℕ) (a : Answer) : Type 0 where
   pub budget : ℕ
   pub budget_low : 1 ≤ budget
   pub budget_high : budget ≤ 10000000
-  pub answer : IsAnswer p.case tol budget a
   -- of the printed split, energy and gap, with the printed pairs
   pub certified : Certified p.case (pairs_kept p) (division_of a.split) a.u a.gap
+  pub near : a.outcome ≡ Closed → a.gap ≤ℤ pos (3 * tol * 2 ^ 18)
+  pub lawful : IsLawful p.case tol budget a
 
 -- what a flash that is reported is
 abbrev pub IsFlashed : End → Type 0

@@ -1,3 +1,7 @@
 pub mod OnePhase
 pub mod Ended
 pub mod Duality
+pub mod Growing
+pub mod Fairness
+pub mod Rows
+pub mod Answered

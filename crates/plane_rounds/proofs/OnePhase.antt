@@ -52,7 +52,7 @@ floor_multiple (negsuc n) (suc k) h =
     let e : pos 0 +ℤ negsuc n *ℤ pos (suc k) ≡ negsuc (n * suc k + k) = omega (arith, ints) in
     rw e (ap negsuc (div-mul-add n (suc k) k (omega arith)))
 
-at_one : (lam : List ℤ) (z : List ℕ) (total : ℕ) → slice_index z 0 ≡ total → 0 < total → plane_at 1 lam z total ≡ slice_index_or lam 0 (pos 0)
+pub at_one : (lam : List ℤ) (z : List ℕ) (total : ℕ) → slice_index z 0 ≡ total → 0 < total → plane_at 1 lam z total ≡ slice_index_or lam 0 (pos 0)
 unfolding plane_at plane_times int_sum_below
 at_one lam z total same some = rw same (floor_multiple (slice_index_or lam 0 (pos 0)) total some)
 

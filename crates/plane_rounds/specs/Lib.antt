@@ -1,4 +1,3 @@
 pub mod Room
 pub mod Noted
 pub mod Following
-pub mod Planes

@@ -1,21 +1,20 @@
 -- What a round leaves in the lists of work.
-use Rattle.std.specs.Prelude.{ℕ, List, [], ◌∷◌, length, ℤ}
+use Rattle.std.specs.Prelude.{ℕ, ◌-◌, List, [], ◌∷◌, length, ℤ}
 use Rattle.case_types.specs.Spared.{Spared}
 use Rattle.case_types.specs.declared.answers.Work.{Work}
+use Rattle.case_types.specs.declared.pivots.Pivot.{Pivot}
 use Rattle.case_types.specs.declared.planes.Plane.{Plane}
 use Rattle.case_types.specs.declared.rounds.Column.{Column}
 use Rattle.case_types.specs.declared.rounds.Round.{Round}
 use Rattle.case_types.specs.declared.rounds.RoundEnd.{RoundEnd}
-use Rattle.case_types.specs.declared.rounds.RoundEnd.TheVariants as End
+use Rattle.case_types.specs.Rounds.{round_end}
+use Rattle.box_search.specs.Found.{search_end}
 use Rattle.box_search.specs.declared.found.Found.{Found}
 use Rattle.box_search.specs.declared.found.Found.TheVariants.{AllClear, Refuted, Spent, Grain}
 
 -- how the end of a search is noted
 abbrev pub end_named : Found → RoundEnd
-end_named (AllClear low) = End.Clear
-end_named (Refuted column) = End.Refuted
-end_named (Spent low) = End.Spent
-end_named (Grain low cell) = End.Grain
+end_named found = round_end (search_end found)
 
 -- the column that a search finds
 abbrev pub columns_of : Found → List Column
@@ -35,3 +34,7 @@ round_noted plane u before letters end = record {
   to = length letters.items;
   end = end;
 }
+
+-- the last of so many columns enters the basis
+abbrev pub last_enters : ℕ → Pivot
+last_enters columns = record { enter = columns - 1; leave = 0 }

@@ -1,6 +1,7 @@
 //! The answer of a flash.
 
 ghost use Rattle.std.specs.Prelude.{◌≡◌, ◌≤◌, ◌<◌, ◌^◌, [], ◌∷◌, pos, neg_ℤ, ◌≤ℤ◌, ◌<ℤ◌, ◌-ℤ◌, unsigned_abs, length, IfSome, IfNone};
+ghost use Rattle.case_types.specs.Bases.{IsSplitOver};
 ghost use Rattle.case_types.specs.Bounds.{plane_at, split_up};
 ghost use Rattle.case_types.specs.Divisions.{Divides, division_of};
 ghost use Rattle.plane_rounds.specs.Following.{Follows};
@@ -69,6 +70,9 @@ pub fn answer_of(
     ensures low { result.low ≡ ending.low }
     ensures plane { result.plane ≡ plane }
     ensures units { result.units ≡ units.now.spent }
+    ensures up { result.u ≡ basis.now.up }
+    ensures split { IsSplitOver basis.now result.split }
+    ensures work { result.work ≡ work }
 {
     let u = basis.up as i128;
     Answer {

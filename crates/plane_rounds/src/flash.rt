@@ -1,8 +1,9 @@
 //! The flash, and what it promises.
 
 ghost use Rattle.std.specs.Prelude.{◌≡◌, ◌≤◌, ◌*◌, ◌^◌, pos, ◌≤ℤ◌, IfOk, length};
-ghost use Rattle.case_types.specs.Answers.{IsAnswer};
+ghost use Rattle.case_types.specs.declared.answers.Outcome.TheVariants.{Closed};
 ghost use Rattle.case_types.specs.Divisions.{Certified, division_of};
+ghost use Rattle.case_types.specs.Lawful.{IsLawful};
 ghost use Rattle.pr_params.specs.Kept.{pairs_kept};
 
 use crate::top::flashed;
@@ -14,8 +15,10 @@ use std::alloc::Global;
 ///
 /// The answer is certified, whatever its outcome: its split is a division of the feed whose energy is at most `u`, and no
 /// division of the feed has an energy below `u - gap`, for every choice of the roots and of log2 e within the printed pairs.
-/// `tol` is the tolerance in 2^-20 bit, `budget` the most units of work. Where the flash closes, the gap is at most half the
-/// tolerance.
+/// Where the flash closes, the gap is at most three quarters of the tolerance. The answer carries its list of work, which is
+/// lawful: each letter, round, pivot and unit has its cause.
+///
+/// `tol` is the tolerance in 2^-20 bit, `budget` the most units of work.
 pub fn flash_tp(alloc: Global, params: &Params, tol: u32, budget: u32) -> Result<Answer, Memory>
     requires one { params.now.case.n ≡ 1 }
     requires tol_low { 128 ≤ tol }
@@ -23,7 +26,8 @@ pub fn flash_tp(alloc: Global, params: &Params, tol: u32, budget: u32) -> Result
     requires budget_low { 1 ≤ budget }
     requires budget_high { budget ≤ 10000000 }
     ensures certified { IfOk result (λ a. Certified params.now.case (pairs_kept params.now) (division_of a.split) a.u a.gap) }
-    ensures answer { IfOk result (λ a. IsAnswer params.now.case tol budget a) }
+    ensures near { IfOk result (λ a. a.outcome ≡ Closed → a.gap ≤ℤ pos (3 * tol * 2 ^ 18)) }
+    ensures lawful { IfOk result (λ a. IsLawful params.now.case tol budget a) }
     ensures one_phase { IfOk result (λ a. length a.split.phases.items ≡ 1) }
 {
     flashed(alloc, params, tol, budget)

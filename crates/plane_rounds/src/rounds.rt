@@ -3,7 +3,7 @@
 ghost use Rattle.std.specs.Prelude.{◌≡◌, ◌≤◌, ◌<◌, ◌+◌, ◌-◌, ◌^◌, ◌++◌, ◌∷◌, [], ℤ, pos, ◌≤ℤ◌, length, unsigned_abs};
 ghost use Rattle.case_types.specs.Numbers.{numbers_of};
 ghost use Rattle.box_search.specs.Found.{IsFound, IsLowest, IsPure, IsRootOpen, low_of, units_of};
-ghost use Rattle.box_search.specs.Written.{Writes};
+ghost use Rattle.box_search.specs.Written.{Writes, Searches};
 ghost use Rattle.case_types.specs.declared.rounds.RoundEnd.TheVariants.{Spent};
 ghost use Rattle.plane_rounds.specs.Noted.{columns_of, end_named, round_noted};
 ghost use Rattle.plane_rounds.specs.Room.{HasRoom, IsCounted};
@@ -38,6 +38,7 @@ pub fn round(
         ≡ work.old.rounds.items ++ round_noted plane.now u work.old work.new.letters (end_named result) ∷ [] }
     ensures kept { work.new.columns.items ≡ work.old.columns.items ++ columns_of result }
     ensures letters { Writes work.old.letters work.new.letters (units.new.spent - units.old.spent) }
+    ensures searched { Searches (numbers_of params.now.case) plane.now.lam delta work.old.letters.items work.new.letters.items (units.new.spent - units.old.spent) result }
     ensures pivots { work.new.pivots ≡ work.old.pivots }
     ensures budget { units.new.budget ≡ units.old.budget }
     ensures spent { units.old.spent + units_of result ≤ units.new.spent }

@@ -5,7 +5,7 @@ ghost use Rattle.case_types.specs.Bounds.{split_up};
 ghost use Rattle.case_types.specs.Columns.{IsColumn};
 ghost use Rattle.case_types.specs.Divisions.{Divides, division_of};
 ghost use Rattle.case_types.specs.Numbers.{numbers_of};
-ghost use Rattle.plane_rounds.specs.Planes.{plane_over};
+ghost use Rattle.case_types.specs.Bases.{plane_over, IsSplitOver};
 
 use arrayvec::ArrayVec;
 use case_types::{Column, Phase, Plane, SLOTS, Split};
@@ -28,6 +28,7 @@ pub fn split_of(params: &Params, basis: &Column) -> Split
     requires comp { basis.now.comp ≡ 2 ^ 20 ∷ 0 ∷ 0 ∷ 0 ∷ [] }
     ensures divides { Divides params.now.case (division_of result) }
     ensures one_phase { length result.phases.items ≡ 1 }
+    ensures over { IsSplitOver basis.now result }
     ensures upper { basis.now.up ≡ split_up (numbers_of params.now.case) result }
 {
     let mut phases: ArrayVec<Phase, SLOTS> = ArrayVec::new();

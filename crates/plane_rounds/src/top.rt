@@ -1,9 +1,11 @@
 //! The rounds of a flash: a plane, a search under it, a column that cuts it off, and the next plane.
 
-ghost use Rattle.std.specs.Prelude.{◌≡◌, ◌≤◌, ◌<◌, ◌+◌, ◌*◌, ◌^◌, [], ◌∷◌, pos, ◌≤ℤ◌, IfOk, length};
+ghost use Rattle.std.specs.Prelude.{◌≡◌, ◌≤◌, ◌<◌, ◌+◌, ◌*◌, ◌^◌, [], ◌∷◌, ◌++◌, pos, ◌≤ℤ◌, IfOk, length};
 ghost use Rattle.case_types.specs.Answers.{IsAnswer, delta_of};
 ghost use Rattle.case_types.specs.Columns.{IsColumn};
+ghost use Rattle.case_types.specs.Lawful.{IsLawful};
 ghost use Rattle.case_types.specs.Numbers.{numbers_of};
+ghost use Rattle.plane_rounds.specs.Noted.{last_enters};
 ghost use Rattle.plane_rounds.specs.Room.{HasRoom, IsCounted};
 
 use crate::answers::{Ending, Next, answer_of, next_of};
@@ -27,6 +29,7 @@ pub fn flashed(alloc: Global, params: &Params, tol: u32, budget: u32) -> Result<
     requires budget_high { budget ≤ 10000000 }
     ensures answer { IfOk result (λ a. IsAnswer params.now.case tol budget a) }
     ensures one_phase { IfOk result (λ a. length a.split.phases.items ≡ 1) }
+    ensures lawful { IfOk result (λ a. IsLawful params.now.case tol budget a) }
 {
     let mut work = new_work(alloc, budget)?;
     let mut units = Units::new(budget);
@@ -82,6 +85,7 @@ fn first_column(params: &Params) -> Column
     requires { params.now.case.n ≡ 1 }
     ensures column { IsColumn (numbers_of params.now.case) result }
     ensures comp { result.comp ≡ 2 ^ 20 ∷ 0 ∷ 0 ∷ 0 ∷ [] }
+    ensures packing { result.packing ≡ 2 ^ 39 }
 {
     match column_at(params, 1 << 39) {
         Some(column) => column,
@@ -97,6 +101,7 @@ fn pivot(work: &mut Work)
     ensures columns { work.new.columns ≡ work.old.columns }
     ensures letters { work.new.letters ≡ work.old.letters }
     ensures rounds { work.new.rounds ≡ work.old.rounds }
+    ensures pushed { work.new.pivots.items ≡ work.old.pivots.items ++ last_enters (length work.old.columns.items) ∷ [] }
     ensures longer { length work.new.pivots.items ≡ length work.old.pivots.items + 1 }
     ensures room { work.new.pivots.spare + 1 ≡ work.old.pivots.spare }
 {

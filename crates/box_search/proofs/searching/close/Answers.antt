@@ -1,10 +1,13 @@
-use Rattle.std.proofs.Common.{◌≡◌, ◌+◌, ◌-◌, ◌∙◌, ◌^◌, pos, neg_ℤ, length, ap, arith}
+use Rattle.std.proofs.Common.{◌≡◌, ◌+◌, ◌-◌, ◌∙◌, ◌^◌, pos, neg_ℤ, length, to_z, ap, arith}
+use Rattle.std.specs.Int.{w128}
 use Rattle.std.proofs.lemmas.Int.{ints}
 use Rattle.log_laws.proofs.Exports.{back}
 use Rattle.pr_params.proofs.Alpha.{abs_within}
 use Rattle.case_types.specs.Cells.{region_of}
 use Rattle.case_types.specs.Numbers.{numbers_of}
 use Rattle.box_search.proofs.Letters.{no_more, one_more}
+use Rattle.box_search.proofs.Pure.{count_is}
+use Rattle.box_search.proofs.SoFar.{IsLesser, close_begins, close_more, closed}
 use Rattle.box_search.proofs.Trees.{leads_leaf, leads_none}
 use Rattle.box_search.proofs.searching.close.Goals as goal
 
@@ -15,6 +18,11 @@ loop-cell-preserved c =
     let more = one_more c.args.letters.now c.loop-cell.letters c.push-in-Some.new.self (length c.args.stack - length c.loop-cell.stack + 1) 112
     old.letters c.push-in-Some.ensures.items c.push-in-Some.ensures.room in
     let count : length c.args.stack - length c.loop-cell.stack + 1 + 1 ≡ length c.args.stack - length c.pop.new.self + 1 = omega (arith, n, old.left) in
+    let lesser : IsLesser (to_z w128 c.loop-cell.low-bits) c.low_plain.result c.smaller-low.result = (
+      omega (arith, ints, c.smaller-low.ensures.first),
+      omega (arith, ints, c.smaller-low.ensures.second, c.low_plain.ensures.small),
+      λ z h k. c.smaller-low.ensures.either z (omega (arith, ints, h)) (omega (arith, ints, k, c.low_plain.ensures.small)),
+    ) in
     let above = c.smaller-low.ensures.either (neg_ℤ (pos (2 ^ 107))) (omega (arith, ints, old.small)) (omega (arith, ints, c.low_plain.ensures.small)) in
     let size = abs_within c.smaller-low.result (2 ^ 107) above (omega (arith, ints, old.small, c.smaller-low.ensures.first)) in
     let read = back c.smaller-low.result (omega (arith, size)) in
@@ -29,6 +37,11 @@ loop-cell-preserved c =
       letters = rw count at more;
       left = omega (arith, n, old.left);
       room = omega (arith, n, old.room, c.push-in-Some.ensures.room);
+      closing =
+          rw read
+          (close_more (numbers_of c.args.params.now.case) c.args.plane.now.lam _ (to_z w128 c.loop-cell.low-bits) c.smaller-low.result c.args.stack c.loop-cell.stack c.pop.new.self
+          c.args.letters.now.items c.loop-cell.letters.items c.push-in-Some.new.self.items (region_of c.in-Some.cell) c.in-Some.ensures.some c.push-in-Some.ensures.items
+          (rw c.low_plain.ensures.value at lesser) old.closing);
     }
 
 pub loop-cell-init : goal.loop-cell-init
@@ -42,7 +55,16 @@ loop-cell-init c =
       letters = rw none (one_more old old c.push.new.self 0 112 (no_more old) c.push.ensures.items c.push.ensures.room);
       left = omega arith;
       room = omega (arith, c.requires.room, c.push.ensures.room);
+      closing =
+          rw (back c.args.low (omega (arith, c.requires.small)))
+          (close_begins (numbers_of c.args.params.now.case) c.args.plane.now.lam c.args.low c.args.stack old.items c.push.new.self.items c.push.ensures.items);
     }
 
 pub returns-clause-over : goal.returns-clause-over
 returns-clause-over c = leads_none (numbers_of c.args.params.now.case) c.args.plane.now.lam c.loop-cell.stack c.args.stack c.in_default.ensures.none c.loop-cell.invariant.over
+
+pub returns-clause-closes : goal.returns-clause-closes
+returns-clause-closes c =
+    closed (numbers_of c.args.params.now.case) c.args.plane.now.lam c.args.low (to_z w128 c.loop-cell.low-bits) c.args.stack c.loop-cell.stack c.args.letters.now.items c.loop-cell.letters.items
+    (count_is c.args.params.now.case ∙ c.requires.one) c.in_default.ensures.none
+    (rw (back c.args.low (omega (arith, c.requires.small))) at c.loop-cell.invariant.closing)

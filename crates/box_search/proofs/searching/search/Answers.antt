@@ -1,14 +1,20 @@
-use Rattle.std.proofs.Common.{◌≡◌, ◌≤◌, ◌+◌, ◌-◌, ◌*◌, ◌^◌, [], ◌∷◌, length, pos, neg_ℤ, ◌<ℤ◌, to_z, of_z, ap, refl, ◌∙◌, inl, inr, arith}
+use Rattle.std.proofs.Common.{◌≡◌, ◌≤◌, ◌+◌, ◌-◌, ◌*◌, ◌^◌, [], ◌∷◌, length, pos, neg_ℤ, ◌<ℤ◌, to_z, of_z, ◌≤ℤ◌, ap, sym, refl, ◌∙◌, inl, inr, arith}
 use Rattle.std.specs.Int.{w128}
 use Rattle.std.proofs.lemmas.Int.{ints}
+use Rattle.std.proofs.lemmas.List.{append-nil}
 use Rattle.log_laws.proofs.Exports.{back}
 use Rattle.case_types.specs.Cells.{region_of, root_region, plain_low}
+use Rattle.case_types.specs.Columns.{point_of}
 use Rattle.case_types.specs.Numbers.{numbers_of}
+use Rattle.case_types.specs.Searches.{IsUncleared}
+use Rattle.box_search.specs.declared.found.Found.TheVariants.{AllClear, Refuted}
 use Rattle.pr_params.proofs.Alpha.{abs_within}
 use Rattle.box_search.proofs.Letters.{no_more, one_more, then_more, writes}
 use Rattle.box_search.proofs.Narrow.{narrow_root, narrow_rest, narrow_halves}
 use Rattle.box_search.proofs.Pure.{count_is, packing_named, not_one}
 use Rattle.box_search.proofs.Root.{begun_rest, root_open}
+use Rattle.box_search.proofs.Causes.{middle_refutes, uncleared, cut_off, unit_edge, no_unit_edge, packing_halved}
+use Rattle.box_search.proofs.SoFar.{IsLesser, highest, none_misses, begins, stands, halves, ended, stops_spent, stops_grain, low_clear}
 use Rattle.box_search.proofs.Trees.{leads_first, leads_leaf, leads_halves, leads_none, leads_close}
 use Rattle.box_search.proofs.searching.search.Goals as goal
 use Rattle.box_search.proofs.searching.search.Goals.{Else-here-delta, After-cell-else-is_spent-2-1}
@@ -29,6 +35,13 @@ root_not_clear c =
     root_open (numbers_of c.args.params.now.case) c.args.plane.now.lam c.args.delta (region_of c.in-Some.cell) c.loop-cell.stack c.pop.new.self
     c.in-Some.ensures.some (rw (delta_read c) at c.loop-cell.invariant.begun) (not_clear c)
 
+cell_uncleared : (c : Else-here-delta) → IsUncleared (numbers_of c.args.params.now.case) c.args.plane.now.lam c.args.delta (region_of c.in-Some.cell)
+cell_uncleared c =
+    uncleared (numbers_of c.args.params.now.case) c.args.plane.now.lam c.args.delta (region_of c.in-Some.cell) (count_is c.args.params.now.case ∙ c.requires.one) (not_clear c)
+
+far_below : (c : Else-here-delta) → plain_low (numbers_of c.args.params.now.case) c.args.plane.now.lam (region_of c.in-Some.cell) <ℤ highest
+far_below c = let h = not_clear c in omega (arith, ints, h, c.requires.delta_low)
+
 -- ---- the loop
 pub loop-cell-init : goal.loop-cell-init
 loop-cell-init c =
@@ -44,6 +57,9 @@ loop-cell-init c =
       budget = refl;
       spent = omega arith;
       letters = rw (n, none) (no_more c.args.letters.now);
+      so_far =
+          begins (numbers_of c.args.params.now.case) c.args.plane.now.lam _ c.args.letters.now.items (c.args.units.now.spent - c.args.units.now.spent) c.new-stack.result
+          first (omega arith);
       counted = omega (arith, n);
     }
 
@@ -58,11 +74,19 @@ loop-cell-preserved-then-here-delta c =
     let d = neg_ℤ c.args.delta in
     let either = c.smaller-low.ensures.either d (omega (arith, ints, old.low))
     (omega (arith, ints, c.if-here-delta.true, c.requires.delta_low, c.requires.delta_high, c.low_plain-here.ensures.small)) in
+    let read = back c.smaller-low.result (omega (arith, ints, either, old.high, c.smaller-low.ensures.first, c.requires.delta_low, c.requires.delta_high)) in
+    let lesser : IsLesser (to_z w128 c.loop-cell.low-bits) c.low_plain-here.result c.smaller-low.result = (
+      omega (arith, ints, c.smaller-low.ensures.first),
+      omega (arith, ints, c.smaller-low.ensures.second, c.low_plain-here.ensures.small),
+      λ z h k. c.smaller-low.ensures.either z (omega (arith, ints, h)) (omega (arith, ints, k, c.low_plain-here.ensures.small)),
+    ) in
+    let clear : neg_ℤ (to_z w128 (of_z w128 c.args.delta)) ≤ℤ c.low_plain-here.result =
+    omega (arith, ints, c.if-here-delta.true, c.requires.delta_low, c.requires.delta_high, c.low_plain-here.ensures.small) in
     record {
       narrow = narrow_rest (region_of c.in-Some.cell) c.pop.new.self (rw e at old.narrow);
       begun = begun_rest (numbers_of c.args.params.now.case) c.args.plane.now.lam (to_z w128 (of_z w128 c.args.delta)) (region_of c.in-Some.cell) c.loop-cell.stack c.pop.new.self e old.begun;
       over =
-          rw (back c.smaller-low.result (omega (arith, ints, either, old.high, c.smaller-low.ensures.first, c.requires.delta_low, c.requires.delta_high)))
+          rw read
           (leads_leaf (numbers_of c.args.params.now.case) c.args.plane.now.lam c.smaller-low.result c.low_plain-here.result
           (region_of c.in-Some.cell) c.loop-cell.stack c.pop.new.self (root_region (numbers_of c.args.params.now.case).count ∷ [])
           e c.low_plain-here.ensures.value (omega (arith, ints, c.smaller-low.ensures.first)) (omega (arith, ints, c.smaller-low.ensures.second, c.low_plain-here.ensures.small)) old.over);
@@ -71,6 +95,12 @@ loop-cell-preserved-then-here-delta c =
       budget = old.budget;
       spent = old.spent;
       letters = rw count at more;
+      so_far =
+          rw read
+          (stands (numbers_of c.args.params.now.case) c.args.plane.now.lam _ (to_z w128 c.loop-cell.low-bits) c.smaller-low.result c.args.letters.now.items c.loop-cell.letters.items
+          c.push.new.self.items spent (region_of c.in-Some.cell) c.loop-cell.stack c.pop.new.self e c.push.ensures.items
+          (none_misses (numbers_of c.args.params.now.case).count (region_of c.in-Some.cell) (count_is c.args.params.now.case ∙ c.requires.one), rw c.low_plain-here.ensures.value at clear)
+          (rw c.low_plain-here.ensures.value at lesser) (rw (← c.low_plain-here.ensures.value) (omega (arith, ints, c.low_plain-here.ensures.small))) old.so_far);
       counted = omega (arith, n, old.counted);
     }
 
@@ -104,10 +134,11 @@ loop-cell-preserved c =
     c.push-else-is_spent-2.ensures.items c.push-else-is_spent-2.ensures.room in
     let count : 2 * spent + 1 - length c.loop-cell.stack + 1 ≡ 2 * (c.spend-else-is_spent-2.new.self.spent - c.args.units.now.spent) + 1 - length c.push_halves.new.self =
     omega (arith, n, m, next, old.spent, old.counted) in
+    let delta = delta_read here.Else-here-delta in
     let narrow = narrow_halves (region_of c.in-Some.cell) c.pop.new.self (wide here.After-cell-else-is_spent-2-1) (rw e at old.narrow) in
     record {
       narrow = rw c.push_halves.ensures narrow.1;
-      begun = rw (delta_read here.Else-here-delta) (inr (inr (root_not_clear here.Else-here-delta)));
+      begun = rw delta (inr (inr (root_not_clear here.Else-here-delta)));
       over =
           leads_halves (numbers_of c.args.params.now.case) c.args.plane.now.lam 3 (region_of c.in-Some.cell)
           c.loop-cell.stack c.pop.new.self c.push_halves.new.self (root_region (numbers_of c.args.params.now.case).count ∷ []) e c.push_halves.ensures old.over;
@@ -116,6 +147,17 @@ loop-cell-preserved c =
       budget = c.spend-else-is_spent-2.ensures.budget ∙ old.budget;
       spent = omega (arith, next, old.spent);
       letters = rw count at more;
+      so_far =
+          rw delta
+          (halves (numbers_of c.args.params.now.case) c.args.plane.now.lam c.args.delta (to_z w128 c.loop-cell.low-bits) c.args.letters.now.items c.loop-cell.letters.items
+          c.push-else-is_spent-2.new.self.items spent (c.spend-else-is_spent-2.new.self.spent - c.args.units.now.spent) (region_of c.in-Some.cell)
+          c.loop-cell.stack c.pop.new.self c.push_halves.new.self e c.push_halves.ensures c.push-else-is_spent-2.ensures.items (
+            record { uncleared = cell_uncleared here.Else-here-delta; not_refuting = rw delta at c.in_default-refuting.ensures.none },
+            no_unit_edge c.args.params.now.case.n (numbers_of c.args.params.now.case).count (region_of c.in-Some.cell) c.edge_to_halve.result c.is_unit.result
+                (count_is c.args.params.now.case) c.edge_to_halve.ensures c.is_unit.ensures.value c.if-is_unit.false,
+            packing_halved (numbers_of c.args.params.now.case).count (region_of c.in-Some.cell) (count_is c.args.params.now.case ∙ c.requires.one),
+          )
+          (omega (arith, next, old.spent)) (rw delta at old.so_far));
       counted = omega (arith, n, m, next, old.spent, old.counted);
     }
 
@@ -231,3 +273,105 @@ pub returns-clause-lowest : goal.returns-clause-lowest
 returns-clause-lowest c =
     (leads_none (numbers_of c.args.params.now.case) c.args.plane.now.lam c.loop-cell.stack (root_region (numbers_of c.args.params.now.case).count ∷ [])
     c.in_default.ensures.none c.loop-cell.invariant.over).0
+
+-- ---- what is written
+
+pub returns-then-is_spent-clause-searched : goal.returns-then-is_spent-clause-searched
+returns-then-is_spent-clause-searched c =
+    let case = c.args.params.now.case in
+    let here = (goal.at.returns-then-is_spent-clause-searched c).Else-here-delta in
+    let delta = delta_read here in
+    let lesser : IsLesser (to_z w128 c.loop-cell.low-bits) c.low_plain-here.result c.smaller.result = (
+      omega (arith, ints, c.smaller.ensures.first),
+      omega (arith, ints, c.smaller.ensures.second, c.low_plain-here.ensures.small),
+      λ z h k. c.smaller.ensures.either z (omega (arith, ints, h)) (omega (arith, ints, k, c.low_plain-here.ensures.small)),
+    ) in
+    let above = c.smaller.ensures.either (neg_ℤ (pos (2 ^ 107))) (omega (arith, ints, c.loop-cell.invariant.low, c.requires.delta_high))
+    (omega (arith, ints, c.low_plain-here.ensures.small)) in
+    let size = abs_within c.smaller.result (2 ^ 107) above (omega (arith, ints, c.smaller.ensures.second, c.low_plain-here.ensures.small)) in
+    let refutes = rw delta at c.in-Some-refuting.ensures.refutes in
+    let closes = rw (back c.smaller.result (omega (arith, size))) at c.close-low.ensures.closes in
+    rw (back c.close-low.result (omega (arith, c.close-low.ensures.small)))
+    (stops_spent (numbers_of case) c.args.plane.now.lam c.args.delta (to_z w128 c.loop-cell.low-bits) c.smaller.result c.close-low.result c.args.letters.now.items c.loop-cell.letters.items
+    c.close-low.new.letters.items (c.loop-cell.units.spent - c.args.units.now.spent) (region_of c.in-Some.cell) c.loop-cell.stack c.pop.new.self (count_is case ∙ c.requires.one)
+    c.in-Some.ensures.some
+    (record {
+      uncleared = cell_uncleared here;
+      wants = inl (middle_refutes (numbers_of case) c.args.plane.now.lam c.args.delta (region_of c.in-Some.cell) (point_of c.in-Some-refuting.column) c.in-Some-refuting.ensures.middle refutes);
+    })
+    closes (rw c.low_plain-here.ensures.value at lesser) (far_below here) (rw delta at c.loop-cell.invariant.so_far))
+
+pub returns-in-Some-refuting-clause-searched : goal.returns-in-Some-refuting-clause-searched
+returns-in-Some-refuting-clause-searched c =
+    let case = c.args.params.now.case in
+    let here = (goal.at.returns-in-Some-refuting-clause-searched c).Else-here-delta in
+    let delta = delta_read here in
+    let refutes = rw delta at c.in-Some-refuting.ensures.refutes in
+    ended (numbers_of case) c.args.plane.now.lam c.args.delta (to_z w128 c.loop-cell.low-bits) c.args.letters.now.items c.loop-cell.letters.items c.loop-cell.letters.items
+    (c.loop-cell.units.spent - c.args.units.now.spent) (c.spend.new.self.spent - c.args.units.now.spent) c.loop-cell.stack (region_of c.in-Some.cell ∷ c.pop.new.self)
+    (Refuted c.in-Some-refuting.column) c.in-Some.ensures.some
+    (cut_off (numbers_of case) c.args.plane.now.lam c.args.delta c.in-Some-refuting.column (region_of c.in-Some.cell) (cell_uncleared here)
+    c.in-Some-refuting.ensures.middle c.in-Some-refuting.ensures.column refutes)
+    (sym (append-nil c.loop-cell.letters.items)) (omega (arith, c.spend.ensures.spent, c.loop-cell.invariant.spent)) (λ t before e over reached. tt)
+    (rw delta at c.loop-cell.invariant.so_far)
+
+pub returns-then-is_unit-clause-searched : goal.returns-then-is_unit-clause-searched
+returns-then-is_unit-clause-searched c =
+    let case = c.args.params.now.case in
+    let here = (goal.at.returns-then-is_unit-clause-searched c).Else-here-delta in
+    let delta = delta_read here in
+    let lesser : IsLesser (to_z w128 c.loop-cell.low-bits) c.low_plain-here.result c.smaller-then-is_unit.result = (
+      omega (arith, ints, c.smaller-then-is_unit.ensures.first),
+      omega (arith, ints, c.smaller-then-is_unit.ensures.second, c.low_plain-here.ensures.small),
+      λ z h k. c.smaller-then-is_unit.ensures.either z (omega (arith, ints, h)) (omega (arith, ints, k, c.low_plain-here.ensures.small)),
+    ) in
+    let above = c.smaller-then-is_unit.ensures.either (neg_ℤ (pos (2 ^ 107))) (omega (arith, ints, c.loop-cell.invariant.low, c.requires.delta_high))
+    (omega (arith, ints, c.low_plain-here.ensures.small)) in
+    let size = abs_within c.smaller-then-is_unit.result (2 ^ 107) above (omega (arith, ints, c.smaller-then-is_unit.ensures.second, c.low_plain-here.ensures.small)) in
+    let closes = rw (back c.smaller-then-is_unit.result (omega (arith, size))) at c.close-low-then-is_unit.ensures.closes in
+    rw (back c.close-low-then-is_unit.result (omega (arith, c.close-low-then-is_unit.ensures.small)))
+    (stops_grain (numbers_of case) c.args.plane.now.lam c.args.delta (to_z w128 c.loop-cell.low-bits) c.smaller-then-is_unit.result c.close-low-then-is_unit.result c.args.letters.now.items c.loop-cell.letters.items
+    c.close-low-then-is_unit.new.letters.items (c.loop-cell.units.spent - c.args.units.now.spent) c.in-Some.cell c.loop-cell.stack c.pop.new.self (count_is case ∙ c.requires.one)
+    c.in-Some.ensures.some
+    (record {
+      same = refl;
+      stuck = record { uncleared = cell_uncleared here; not_refuting = rw delta at c.in_default-refuting.ensures.none };
+      one_unit = unit_edge case.n (numbers_of case).count (region_of c.in-Some.cell) c.edge_to_halve.result c.is_unit.result
+          (count_is case) c.edge_to_halve.ensures c.is_unit.ensures.value c.if-is_unit.true;
+    })
+    closes (rw c.low_plain-here.ensures.value at lesser) (far_below here) (rw delta at c.loop-cell.invariant.so_far))
+
+pub returns-then-is_spent-2-clause-searched : goal.returns-then-is_spent-2-clause-searched
+returns-then-is_spent-2-clause-searched c =
+    let case = c.args.params.now.case in
+    let here = (goal.at.returns-then-is_spent-2-clause-searched c).Else-here-delta in
+    let delta = delta_read here in
+    let lesser : IsLesser (to_z w128 c.loop-cell.low-bits) c.low_plain-here.result c.smaller-then-is_spent-2.result = (
+      omega (arith, ints, c.smaller-then-is_spent-2.ensures.first),
+      omega (arith, ints, c.smaller-then-is_spent-2.ensures.second, c.low_plain-here.ensures.small),
+      λ z h k. c.smaller-then-is_spent-2.ensures.either z (omega (arith, ints, h)) (omega (arith, ints, k, c.low_plain-here.ensures.small)),
+    ) in
+    let above = c.smaller-then-is_spent-2.ensures.either (neg_ℤ (pos (2 ^ 107))) (omega (arith, ints, c.loop-cell.invariant.low, c.requires.delta_high))
+    (omega (arith, ints, c.low_plain-here.ensures.small)) in
+    let size = abs_within c.smaller-then-is_spent-2.result (2 ^ 107) above (omega (arith, ints, c.smaller-then-is_spent-2.ensures.second, c.low_plain-here.ensures.small)) in
+    let closes = rw (back c.smaller-then-is_spent-2.result (omega (arith, size))) at c.close-low-then-is_spent-2.ensures.closes in
+    rw (back c.close-low-then-is_spent-2.result (omega (arith, c.close-low-then-is_spent-2.ensures.small)))
+    (stops_spent (numbers_of case) c.args.plane.now.lam c.args.delta (to_z w128 c.loop-cell.low-bits) c.smaller-then-is_spent-2.result c.close-low-then-is_spent-2.result c.args.letters.now.items c.loop-cell.letters.items
+    c.close-low-then-is_spent-2.new.letters.items (c.loop-cell.units.spent - c.args.units.now.spent) (region_of c.in-Some.cell) c.loop-cell.stack c.pop.new.self (count_is case ∙ c.requires.one)
+    c.in-Some.ensures.some
+    (record {
+      uncleared = cell_uncleared here;
+      wants = inr (no_unit_edge case.n (numbers_of case).count (region_of c.in-Some.cell) c.edge_to_halve.result c.is_unit.result
+          (count_is case) c.edge_to_halve.ensures c.is_unit.ensures.value c.if-is_unit.false);
+    })
+    closes (rw c.low_plain-here.ensures.value at lesser) (far_below here) (rw delta at c.loop-cell.invariant.so_far))
+
+pub returns-clause-searched : goal.returns-clause-searched
+returns-clause-searched c =
+    let case = c.args.params.now.case in
+    let delta = back c.args.delta (omega (arith, ints, c.requires.delta_low, c.requires.delta_high)) in
+    ended (numbers_of case) c.args.plane.now.lam c.args.delta (to_z w128 c.loop-cell.low-bits) c.args.letters.now.items c.loop-cell.letters.items c.loop-cell.letters.items
+    (c.loop-cell.units.spent - c.args.units.now.spent) (c.loop-cell.units.spent - c.args.units.now.spent) c.loop-cell.stack [] (AllClear (to_z w128 c.loop-cell.low-bits)) c.in_default.ensures.none refl
+    (sym (append-nil c.loop-cell.letters.items)) (omega arith)
+    (λ t before e over reached. low_clear (numbers_of case) c.args.plane.now.lam (to_z w128 c.loop-cell.low-bits) t (root_region (numbers_of case).count) before e over reached)
+    (rw delta at c.loop-cell.invariant.so_far)

@@ -4,6 +4,7 @@ use Rattle.case_types.specs.Numbers.{numbers_of}
 use Rattle.box_search.specs.Written.{WritesSome}
 use Rattle.box_search.proofs.Narrow.{Narrows}
 use Rattle.box_search.proofs.Root.{IsBegun}
+use Rattle.box_search.proofs.SoFar.{SoFar}
 use Rattle.box_search.proofs.Trees.{Leads}
 use Rattle.box_search.proofs.searching.search.Given as goal
 
@@ -17,6 +18,7 @@ invariant-loop-cell l = record {
   budget : l.units.budget ≡ l.fn.units.budget;
   spent : l.fn.units.spent ≤ l.units.spent;
   letters : WritesSome l.fn.letters l.letters (2 * (l.units.spent - l.fn.units.spent) + 1 - length l.stack);
+  so_far : SoFar (numbers_of l.params.case) l.plane.lam l.fn.delta l.fn.letters.items l.letters.items (l.units.spent - l.fn.units.spent) l.low l.stack;
   counted : length l.stack ≤ 2 * (l.units.spent - l.fn.units.spent) + 1;
 }
 

@@ -1,7 +1,10 @@
-use Rattle.std.proofs.Common.{subst, sym}
+use Rattle.std.proofs.Common.{◌≡◌, ◌*◌, ◌^◌, ◌≤ℤ◌, pos, subst, sym}
 use Rattle.std.proofs.lemmas.Result.{IfOk-weaker}
 use Rattle.case_types.specs.declared.answers.Answer.{Answer}
+use Rattle.case_types.specs.declared.answers.Outcome.TheVariants.{Closed}
 use Rattle.case_types.specs.Answers.{IsAnswer}
+use Rattle.case_types.specs.Lawful.{IsLawful}
+use Rattle.case_types.proofs.WorkLaws.{closed_is_near}
 use Rattle.case_types.specs.Divisions.{Certified, division_of}
 use Rattle.case_types.specs.Instances.{Enclosures}
 use Rattle.pr_params.specs.Kept.{pairs_kept}
@@ -14,3 +17,8 @@ returns-clause-certified c =
     IfOk-weaker c.flashed.result (IsAnswer case c.args.tol c.args.budget) (λ (a : Answer). Certified case (pairs_kept c.args.params.now) (division_of a.split) a.u a.gap)
     (λ a h. subst (λ (e : Enclosures). Certified case e (division_of a.split) a.u a.gap) (sym c.args.params.now.printed)
     (certified case c.args.tol c.args.budget a c.requires.one c.args.params.now.accepted h)) c.flashed.ensures.answer
+
+pub returns-clause-near : goal.returns-clause-near
+returns-clause-near c =
+    IfOk-weaker c.flashed.result (IsLawful c.args.params.now.case c.args.tol c.args.budget) (λ (a : Answer). a.outcome ≡ Closed → a.gap ≤ℤ pos (3 * c.args.tol * 2 ^ 18))
+    (λ a h. closed_is_near c.args.params.now.case c.args.tol c.args.budget a h) c.flashed.ensures.lawful

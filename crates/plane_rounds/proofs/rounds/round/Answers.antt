@@ -14,6 +14,11 @@ returns-clause-root c =
     let delta = back c.args.delta (omega (arith, ints, c.requires.delta_low, c.requires.delta_high)) in
     rw delta at c.search-found.ensures.root
 
+pub returns-clause-searched : goal.returns-clause-searched
+returns-clause-searched c =
+    let delta = back c.args.delta (omega (arith, ints, c.requires.delta_low, c.requires.delta_high)) in
+    rw delta at c.search-found.ensures.searched
+
 pub returns-clause-noted : goal.returns-clause-noted
 returns-clause-noted c =
     rw (to_z-of_z w128 c.args.u c.ranges.u, c.len-columns.ensures, c.len-pivots.ensures, c.len-from.ensures, c.len.ensures, c.end_of.ensures) at c.push.ensures.items

@@ -1,0 +1,63 @@
+-- Why a cell has its letter, and why a search ends at it.
+use Rattle.std.proofs.Common.{◌≡◌, ℕ, ◌+◌, ◌/◌, ◌^◌, ◌<◌, ◌≤◌, ◌||◌, nat_lt, ◌==◌, Bool, true, false, if◌then◌else◌, List, [], ◌∷◌, Option, Some, None, ℤ, ◌-ℤ◌, neg_ℤ, ◌<ℤ◌, unsigned_abs, IsTrue, refl, sym, ap, ◌∙◌, arith}
+use Rattle.std.proofs.lemmas.Int.{ints}
+use Rattle.case_types.specs.declared.rounds.Column.{Column}
+use Rattle.case_types.specs.Bases.{pure_composition}
+use Rattle.case_types.specs.Cells.{Region, edge_to_halve, is_unit, GridPoint, middle_sum, middle_point, midpoint, plain_low}
+use Rattle.case_types.specs.Columns.{IsColumn, Refutes, point_of, point_up}
+use Rattle.case_types.specs.Numbers.{Numbers}
+use Rattle.case_types.specs.Searches.{IsUncleared, MiddleRefutes, HasUnitEdge, IsCutOff}
+use Rattle.log_laws.specs.Sums.{list_below}
+use Rattle.box_search.proofs.Pure.{packing_named}
+use Rattle.box_search.proofs.SoFar.{none_misses}
+
+-- ---- the middle of a cell
+-- an answer that is there
+there : (b : Bool) (x g : GridPoint) → Some g ≡ (if b then None else Some x) → g ≡ x
+there true x g e = absurd (let z : Some g ≡ None = e in cc)
+there false x g e = let z : Some g ≡ Some x = e in cc
+
+-- the middle of a cell of one component is the component alone
+pub middle_alone : (n : ℕ) (r : Region) (composition : List ℕ) (packing : ℕ) → n ≡ 1 →
+    Some (record { composition = composition; packing = packing }) ≡ midpoint n r → midpoint n r ≡ Some (record { composition = pure_composition; packing = packing })
+unfolding list_below
+middle_alone n r composition packing one e =
+    let g : GridPoint = record { composition = composition; packing = packing } in
+    let same : g ≡ middle_point 1 r = there (nat_lt (2 ^ 20) (middle_sum 1 r) || (r.ylo + r.yhi) / 2 == 0) (middle_point 1 r) g (rw one at e) in
+    let alone : composition ≡ pure_composition = ap (λ (x : GridPoint). x.composition) same in
+    rw (← alone) (sym e)
+
+-- where the middle has too great an energy it doesn't cut the plane off
+pub too_great : (p : Numbers) (lam : List ℤ) (delta : ℤ) (r : Region) (g : GridPoint) → midpoint p.count r ≡ Some g → 2 ^ 49 ≤ unsigned_abs (point_up p g) →
+    MiddleRefutes p lam delta r → ⊥
+too_great p lam delta r g e great h = let k : Refutes p lam delta g = rw e at h in omega (arith, great, k.small)
+
+pub middle_refutes : (p : Numbers) (lam : List ℤ) (delta : ℤ) (r : Region) (g : GridPoint) → midpoint p.count r ≡ Some g → Refutes p lam delta g → MiddleRefutes p lam delta r
+middle_refutes p lam delta r g e h = rw e h
+
+pub middle_stays : (p : Numbers) (lam : List ℤ) (delta : ℤ) (r : Region) (g : GridPoint) → midpoint p.count r ≡ Some g → (Refutes p lam delta g → ⊥) → MiddleRefutes p lam delta r → ⊥
+middle_stays p lam delta r g e above h = above (rw e at h)
+
+-- ---- cells
+pub uncleared : (p : Numbers) (lam : List ℤ) (delta : ℤ) (r : Region) → p.count ≡ 1 → plain_low p lam r <ℤ neg_ℤ delta → IsUncleared p lam delta r
+uncleared p lam delta r one h = record { meets = none_misses p.count r one; below = h }
+
+-- the column in the middle of the cell in hand is kept
+pub cut_off : (p : Numbers) (lam : List ℤ) (delta : ℤ) (kept : Column) (hand : Region) → IsUncleared p lam delta hand → midpoint p.count hand ≡ Some (point_of kept) →
+    IsColumn p kept → Refutes p lam delta (point_of kept) → IsCutOff p lam delta kept hand
+cut_off p lam delta kept hand open_cell e column h = record {
+  uncleared = open_cell;
+  at_middle = rw (e, ← column.up) (h, omega (arith, ints));
+  column = column;
+  refutes = h;
+}
+
+-- the edge to halve has one unit, or hasn't
+pub unit_edge : (n k : ℕ) (r : Region) (edge : ℕ) (b : Bool) → k ≡ n → edge ≡ edge_to_halve n r → b ≡ is_unit r edge → IsTrue b → HasUnitEdge k r
+unit_edge n k r edge b e f g h = rw (e, ← f, ← g) h
+
+pub no_unit_edge : (n k : ℕ) (r : Region) (edge : ℕ) (b : Bool) → k ≡ n → edge ≡ edge_to_halve n r → b ≡ is_unit r edge → b ≡ false → HasUnitEdge k r → ⊥
+no_unit_edge n k r edge b e f g wide h = let t : IsTrue b = rw (e, ← f, ← g) at h in cc
+
+pub packing_halved : (n : ℕ) (r : Region) → n ≡ 1 → 3 ≡ edge_to_halve n r
+packing_halved n r one = rw one (sym (packing_named r))

@@ -1,0 +1,312 @@
+-- A search so far: what is written, with any visits that finish the cells on the stack, is a tree.
+use Rattle.std.proofs.Common.{◌≡◌, ℕ, ◌+◌, ◌^◌, ◌⊎◌, List, [], ◌∷◌, ◌++◌, map, ℤ, pos, ◌≤ℤ◌, ◌<ℤ◌, IsFalse, Bool, true, false, cond, inl, inr, Some, refl, sym, ap, ◌∙◌, append_assoc, arith}
+use Rattle.std.proofs.lemmas.Int.{ints}
+use Rattle.std.proofs.lemmas.List.{append-nil, map-append}
+use Rattle.case_types.specs.declared.cells.Cell.{Cell}
+use Rattle.case_types.specs.Cells.{Region, region_of, root_region, lower_half, upper_half, misses, Mark, Misses, Plain, Tree, Leaf, Node, Step, Ends, Halves, Visit, visits, letter_of, letters_of, HasVisit, plain_low}
+use Rattle.case_types.specs.Numbers.{Numbers}
+use Rattle.case_types.specs.Searches.{EachVisit, HaveCauses, HasStepCause, IsStepOver, IsStepAt, IsLeastLow, HasLeastLow, HasEndCause, WantsUnit, IsGrainOf, left_visit, closing, edges_in}
+use Rattle.case_types.proofs.Cover.{total, has-left, has-right}
+use Rattle.case_types.proofs.Walks.{each-append, each_over_less, edges-append}
+use Rattle.box_search.specs.declared.found.Found.{Found}
+use Rattle.box_search.specs.declared.found.Found.TheVariants.{AllClear, Refuted, Spent, Grain}
+use Rattle.box_search.specs.Found.{search_end, units_of}
+use Rattle.box_search.specs.Written.{IsLeastFrom, Closes, Searches}
+
+-- ---- the visits of one tree for each cell, in turn
+unfoldable pub Finishes : List Region → List Visit → Type 0
+Finishes [] rest = rest ≡ []
+Finishes (r ∷ below) rest = (t : Tree) × (more : List Visit) × (rest ≡ visits t r ++ more) × Finishes below more
+
+finish_leaf : (mark : Mark) (r : Region) (below : List Region) (rest : List Visit) → Finishes below rest →
+    Finishes (r ∷ below) (record { region = r; step = Ends mark } ∷ rest)
+unfolding Finishes visits
+finish_leaf mark r below rest f = (Leaf mark, rest, refl, f)
+
+finish_halved : (edge : ℕ) (r : Region) (below : List Region) (rest : List Visit) → Finishes (lower_half edge r ∷ upper_half edge r ∷ below) rest →
+    Finishes (r ∷ below) (record { region = r; step = Halves edge } ∷ rest)
+unfolding Finishes visits
+finish_halved edge r below rest f = (
+  Node edge f.0 f.3.0,
+  f.3.1,
+  ap (λ vs. record { region = r; step = Halves edge } ∷ vs)
+      (f.2 ∙ ap (λ vs. visits f.0 (lower_half edge r) ++ vs) f.3.2 ∙ sym (append_assoc (visits f.0 (lower_half edge r)) (visits f.3.0 (upper_half edge r)) f.3.1)),
+  f.3.3,
+)
+
+-- leaves finish any cells
+finish_all : (n : ℕ) (left : List Region) → Finishes left (map (left_visit n) left)
+unfolding Finishes
+finish_all n [] = refl
+finish_all n (r ∷ below) = finish_leaf _ r below (map (left_visit n) below) (finish_all n below)
+
+-- ---- cells of one component
+abbrev pub plain_visit : Region → Visit
+plain_visit r = record { region = r; step = Ends Plain }
+
+pub none_misses : (n : ℕ) (r : Region) → n ≡ 1 → IsFalse (misses n r)
+none_misses n r e = rw e refl
+
+pub left_plain : (n : ℕ) (left : List Region) → n ≡ 1 → map (left_visit n) left ≡ map plain_visit left
+left_plain n left e = rw e refl
+
+pub plain_at : (p : Numbers) (lam : List ℤ) (low : ℤ) (r : Region) → low ≡ plain_low p lam r → IsStepAt p lam low r (Ends Plain)
+plain_at p lam low r e = ap Some (sym e)
+
+-- ---- the lesser of two numbers
+abbrev pub IsLesser : ℤ → ℤ → ℤ → Type 0
+IsLesser a b low = (low ≤ℤ a) × (low ≤ℤ b) × ((z : ℤ) → z ≤ℤ a → z ≤ℤ b → z ≤ℤ low)
+
+pub lesser_is : (a b low : ℤ) → IsLesser a b low → (low ≡ a) ⊎ (low ≡ b)
+lesser_is a b low h =
+    elim (total a b) [
+      | inl l ↦ let k = h.2 a (omega (arith, ints)) l in inl (omega (arith, ints, k, h.0))
+      | inr g ↦ let k = h.2 b g (omega (arith, ints)) in inr (omega (arith, ints, k, h.1))
+    ]
+
+-- a walk of which no cell is a leaf
+abbrev pub IsHalved : Step → Type 0
+IsHalved (Ends mark) = ⊥
+IsHalved (Halves edge) = Unit {0}
+
+some_leaf : (t : Tree) (r : Region) (vs : List Visit) → EachVisit (λ v. IsHalved v.step) (visits t r ++ vs) → ⊥
+unfolding visits
+some_leaf (Leaf mark) r vs h = h.0
+some_leaf (Node edge lower upper) r vs h =
+    some_leaf lower (lower_half edge r) (visits upper (upper_half edge r) ++ vs) (rw (← append_assoc (visits lower (lower_half edge r)) (visits upper (upper_half edge r)) vs) h.1)
+
+-- no low of a cell is above this
+abbrev pub highest : ℤ
+highest = pos (2 ^ 107)
+
+pub record SoFar (p : Numbers) (lam : List ℤ) (delta : ℤ) (old now : List ℕ) (units : ℕ) (low : ℤ) (stack : List Region) : Type 0 where
+  pub before : List Visit
+  pub written : now ≡ old ++ letters_of before
+  pub caused : HaveCauses p lam delta before
+  pub grows : (rest : List Visit) → Finishes stack rest → (t : Tree) × (visits t (root_region p.count) ≡ before ++ rest)
+  pub units_are : units ≡ edges_in (letters_of before)
+  pub over : EachVisit (λ v. IsStepOver p lam low v.region v.step) before
+  pub reached : HasVisit (λ v. IsStepAt p lam low v.region v.step) before ⊎ ((low ≡ highest) × EachVisit (λ v. IsHalved v.step) before)
+
+start_tree : (r : Region) (rest : List Visit) → Finishes (r ∷ []) rest → (t : Tree) × (visits t r ≡ [] ++ rest)
+unfolding Finishes
+start_tree r rest f = (f.0, sym (f.2 ∙ ap (λ vs. visits f.0 r ++ vs) f.3 ∙ append-nil (visits f.0 r)))
+
+pub begins : (p : Numbers) (lam : List ℤ) (delta : ℤ) (old : List ℕ) (units : ℕ) (stack : List Region) → stack ≡ root_region p.count ∷ [] → units ≡ 0 →
+    SoFar p lam delta old old units highest stack
+begins p lam delta old units stack e none = record {
+  before = [];
+  written = sym (append-nil old);
+  caused = tt;
+  grows = λ rest f. start_tree (root_region p.count) rest (rw e at f);
+  units_are = none;
+  over = tt;
+  reached = inr (refl, tt);
+}
+
+-- one more letter
+written_more : (old now next : List ℕ) (before : List Visit) (v : Visit) → now ≡ old ++ letters_of before → next ≡ now ++ letter_of v.step ∷ [] →
+    next ≡ old ++ letters_of (before ++ v ∷ [])
+written_more old now next before v e f = rw (map-append, ← append_assoc old (letters_of before) (letter_of v.step ∷ []), ← e) f
+
+-- the least low with one leaf more
+reached_more : (p : Numbers) (lam : List ℤ) (low next : ℤ) (before : List Visit) (r : Region) → IsLesser low (plain_low p lam r) next → plain_low p lam r ≤ℤ highest →
+    HasVisit (λ v. IsStepAt p lam low v.region v.step) before ⊎ ((low ≡ highest) × EachVisit (λ v. IsHalved v.step) before) →
+    HasVisit (λ v. IsStepAt p lam next v.region v.step) (before ++ plain_visit r ∷ [])
+reached_more p lam low next before r lesser small old =
+    elim (lesser_is low (plain_low p lam r) next lesser) [
+      | inr here ↦ now here
+      | inl same ↦ elim old [
+        | inl there ↦ has-left (λ v. IsStepAt p lam next v.region v.step) before (plain_visit r ∷ []) (rw same there)
+        | inr none ↦ now (omega (arith, ints, same, none.0, small, lesser.1))
+      ]
+    ]
+  where
+    now : next ≡ plain_low p lam r → HasVisit (λ v. IsStepAt p lam next v.region v.step) (before ++ plain_visit r ∷ [])
+    now e = has-right (λ v. IsStepAt p lam next v.region v.step) before (plain_visit r ∷ []) (inl (plain_at p lam next r e))
+
+-- a cell is cleared
+pub stands : (p : Numbers) (lam : List ℤ) (delta low next : ℤ) (old now new : List ℕ) (units : ℕ) (r : Region) (stack below : List Region) →
+    stack ≡ r ∷ below → new ≡ now ++ 112 ∷ [] → HasStepCause p lam delta r (Ends Plain) → IsLesser low (plain_low p lam r) next → plain_low p lam r ≤ℤ highest →
+    SoFar p lam delta old now units low stack → SoFar p lam delta old new units next below
+stands p lam delta low next old now new units r stack below e f clear lesser small h = record {
+  before = h.before ++ plain_visit r ∷ [];
+  written = written_more old now new h.before (plain_visit r) h.written f;
+  caused = each-append (λ v. HasStepCause p lam delta v.region v.step) h.before (plain_visit r ∷ []) h.caused (clear, tt);
+  grows = λ rest k. rw append_assoc (h.grows (plain_visit r ∷ rest) (rw e (finish_leaf Plain r below rest k)));
+  units_are = let z = edges-append (letters_of h.before) (112 ∷ []) in rw map-append (omega (arith, z, h.units_are));
+  over = each-append (λ v. IsStepOver p lam next v.region v.step) h.before (plain_visit r ∷ []) (each_over_less p lam low next lesser.0 h.before h.over) (lesser.1, tt);
+  reached = inl (reached_more p lam low next h.before r lesser small h.reached);
+}
+
+reached_halved : (p : Numbers) (lam : List ℤ) (low : ℤ) (before : List Visit) (u : Visit) → IsHalved u.step →
+    HasVisit (λ v. IsStepAt p lam low v.region v.step) before ⊎ ((low ≡ highest) × EachVisit (λ v. IsHalved v.step) before) →
+    HasVisit (λ v. IsStepAt p lam low v.region v.step) (before ++ u ∷ []) ⊎ ((low ≡ highest) × EachVisit (λ v. IsHalved v.step) (before ++ u ∷ []))
+reached_halved p lam low before u h (inl there) = inl (has-left (λ v. IsStepAt p lam low v.region v.step) before (u ∷ []) there)
+reached_halved p lam low before u h (inr none) = inr (none.0, each-append (λ v. IsHalved v.step) before (u ∷ []) none.1 (h, tt))
+
+-- a cell is halved along its packing
+pub halves : (p : Numbers) (lam : List ℤ) (delta low : ℤ) (old now new : List ℕ) (units more : ℕ) (r : Region) (stack below next : List Region) →
+    stack ≡ r ∷ below → next ≡ lower_half 3 r ∷ upper_half 3 r ∷ below → new ≡ now ++ 121 ∷ [] → HasStepCause p lam delta r (Halves 3) → more ≡ units + 1 →
+    SoFar p lam delta old now units low stack → SoFar p lam delta old new more low next
+halves p lam delta low old now new units more r stack below next e e2 f cause one h =
+    let u : Visit = record { region = r; step = Halves 3 } in
+    record {
+      before = h.before ++ u ∷ [];
+      written = written_more old now new h.before u h.written f;
+      caused = each-append (λ v. HasStepCause p lam delta v.region v.step) h.before (u ∷ []) h.caused (cause, tt);
+      grows = λ rest k. rw append_assoc (h.grows (u ∷ rest) (rw e (finish_halved 3 r below rest (rw e2 at k))));
+      units_are = let z = edges-append (letters_of h.before) (121 ∷ []) in rw map-append (omega (arith, z, h.units_are, one));
+      over = each-append (λ v. IsStepOver p lam low v.region v.step) h.before (u ∷ []) h.over (tt, tt);
+      reached = reached_halved p lam low h.before u tt h.reached;
+    }
+
+-- ---- the cells that are left
+-- the least with one leaf more
+least_more : (p : Numbers) (lam : List ℤ) (first low next : ℤ) (vs : List Visit) (r : Region) → IsLesser low (plain_low p lam r) next →
+    IsLeastFrom p lam first low vs → IsLeastFrom p lam first next (vs ++ plain_visit r ∷ [])
+least_more p lam first low next vs r lesser h = record {
+  lower = omega (arith, ints, lesser.0, h.lower);
+  over = each-append (λ v. IsStepOver p lam next v.region v.step) vs (plain_visit r ∷ []) (each_over_less p lam low next lesser.0 vs h.over) (lesser.1, tt);
+  reached = elim (lesser_is low (plain_low p lam r) next lesser) [
+    | inr here ↦ inr (has-right (λ v. IsStepAt p lam next v.region v.step) vs (plain_visit r ∷ []) (inl (plain_at p lam next r here)))
+    | inl same ↦ elim h.reached [
+      | inl old ↦ inl (same ∙ old)
+      | inr there ↦ inr (has-left (λ v. IsStepAt p lam next v.region v.step) vs (plain_visit r ∷ []) (rw same there))
+    ]
+  ];
+}
+
+-- what is done of the cells that are left, with the letter of the cell in hand
+pub record Closing (p : Numbers) (lam : List ℤ) (first : ℤ) (all : List Region) (old now : List ℕ) (low : ℤ) (stack : List Region) : Type 0 where
+  pub done : List Region
+  pub split : all ≡ done ++ stack
+  pub letters : now ≡ old ++ 112 ∷ letters_of (map plain_visit done)
+  pub lows : IsLeastFrom p lam first low (map plain_visit done)
+
+pub close_begins : (p : Numbers) (lam : List ℤ) (first : ℤ) (all : List Region) (old now : List ℕ) → now ≡ old ++ 112 ∷ [] → Closing p lam first all old now first all
+close_begins p lam first all old now e = record {
+  done = [];
+  split = refl;
+  letters = e;
+  lows = record { lower = omega (arith, ints); over = tt; reached = inl refl };
+}
+
+pub close_more : (p : Numbers) (lam : List ℤ) (first low next : ℤ) (all stack below : List Region) (old now new : List ℕ) (r : Region) →
+    stack ≡ r ∷ below → new ≡ now ++ 112 ∷ [] → IsLesser low (plain_low p lam r) next → Closing p lam first all old now low stack → Closing p lam first all old new next below
+close_more p lam first low next all stack below old now new r e f lesser h = record {
+  done = h.done ++ r ∷ [];
+  split = rw (append_assoc h.done (r ∷ []) below, ← e) h.split;
+  letters = rw map-append (written_more old now new (plain_visit r ∷ map plain_visit h.done) (plain_visit r) h.letters f);
+  lows = rw map-append (least_more p lam first low next (map plain_visit h.done) r lesser h.lows);
+}
+
+pub closed : (p : Numbers) (lam : List ℤ) (first low : ℤ) (all stack : List Region) (old now : List ℕ) → p.count ≡ 1 → stack ≡ [] →
+    Closing p lam first all old now low stack → Closes p lam first all old now low
+closed p lam first low all stack old now one e h =
+    let same : all ≡ h.done = rw (e, append-nil h.done) at h.split in
+    let leaves : map (left_visit p.count) all ≡ map plain_visit h.done = left_plain p.count all one ∙ ap (λ rs. map plain_visit rs) same in
+    record { written = rw leaves h.letters; lows = rw leaves h.lows }
+
+-- ---- the end
+abbrev pub IsReached : Numbers → List ℤ → ℤ → List Visit → Type 0
+IsReached p lam low before =
+    HasVisit (λ v. IsStepAt p lam low v.region v.step) before ⊎ ((low ≡ highest) × EachVisit (λ v. IsHalved v.step) before)
+
+-- the low of a search that leaves cells
+pub low_left : (p : Numbers) (lam : List ℤ) (low mid least : ℤ) (hand : Region) (rest : List Region) → p.count ≡ 1 → IsLesser low (plain_low p lam hand) mid →
+    plain_low p lam hand <ℤ highest → IsLeastFrom p lam mid least (map (left_visit p.count) rest) →
+    (before : List Visit) → EachVisit (λ v. IsStepOver p lam low v.region v.step) before → IsReached p lam low before →
+    IsLeastLow p lam least (before ++ map (left_visit p.count) (hand ∷ rest))
+low_left p lam low mid least hand rest one lesser small h before over reached = rw left_hand record {
+  over = each-append (λ v. IsStepOver p lam least v.region v.step) before (plain_visit hand ∷ map (left_visit p.count) rest)
+      (each_over_less p lam low least (omega (arith, ints, lesser.0, h.lower)) before over) (omega (arith, ints, lesser.1, h.lower), h.over);
+  reached = elim h.reached [
+    | inr there ↦ has-right P before (plain_visit hand ∷ map (left_visit p.count) rest) (inr there)
+    | inl same ↦ elim (lesser_is low (plain_low p lam hand) mid lesser) [
+      | inr here ↦ has-right P before (plain_visit hand ∷ map (left_visit p.count) rest) (inl (plain_at p lam least hand (same ∙ here)))
+      | inl old ↦ elim reached [
+        | inl there ↦ has-left P before (plain_visit hand ∷ map (left_visit p.count) rest) (rw (same, old) there)
+        | inr none ↦ absurd (omega (arith, ints, old, none.0, small, lesser.1))
+      ]
+    ]
+  ];
+}
+  where
+    P : Visit → Type 0
+    P = λ v. IsStepAt p lam least v.region v.step
+
+    left_hand : map (left_visit p.count) (hand ∷ rest) ≡ plain_visit hand ∷ map (left_visit p.count) rest
+    left_hand = ap (λ n. left_visit n hand ∷ map (left_visit p.count) rest) one
+
+-- the low of a search that clears every cell
+pub low_clear : (p : Numbers) (lam : List ℤ) (low : ℤ) (t : Tree) (r : Region) (before : List Visit) → visits t r ≡ before ++ [] →
+    EachVisit (λ v. IsStepOver p lam low v.region v.step) before → IsReached p lam low before → IsLeastLow p lam low (before ++ [])
+low_clear p lam low t r before e over (inl there) = rw (append-nil before) record { over = over; reached = there }
+low_clear p lam low t r before e over (inr none) =
+    absurd (some_leaf t r [] (rw (append-nil (visits t r), e, append-nil before) none.1))
+
+left-edges : (n : ℕ) (left : List Region) → edges_in (letters_of (map (left_visit n) left)) ≡ 0
+left-edges n [] = refl
+left-edges n (r ∷ below) = by_mark (misses n r) (letters_of (map (left_visit n) below)) (left-edges n below)
+  where
+    by_mark : (b : Bool) (rest : List ℕ) → edges_in rest ≡ 0 → edges_in (letter_of (Ends (cond b Misses Plain)) ∷ rest) ≡ 0
+    by_mark true rest h = h
+    by_mark false rest h = h
+
+closing-edges : (n : ℕ) (found : Found) (left : List Region) → edges_in (letters_of (closing n (search_end found) left)) ≡ 0
+closing-edges n (AllClear low) left = left-edges n left
+closing-edges n (Refuted kept) left = refl
+closing-edges n (Spent low) left = left-edges n left
+closing-edges n (Grain low cell) left = left-edges n left
+
+-- the search ends with some cells left, which get leaf letters or not
+pub ended : (p : Numbers) (lam : List ℤ) (delta low : ℤ) (old now new : List ℕ) (units more : ℕ) (stack left : List Region) (found : Found) →
+    stack ≡ left → HasEndCause p lam delta (search_end found) left → new ≡ now ++ letters_of (closing p.count (search_end found) left) → more ≡ units + units_of found →
+    ((t : Tree) (before : List Visit) → visits t (root_region p.count) ≡ before ++ map (left_visit p.count) left →
+    EachVisit (λ v. IsStepOver p lam low v.region v.step) before → IsReached p lam low before →
+    HasLeastLow p lam (search_end found) (before ++ map (left_visit p.count) left)) →
+    SoFar p lam delta old now units low stack → Searches p lam delta old new more found
+ended p lam delta low old now new units more stack left found e cause f g low_of_walk h =
+    let k : SoFar p lam delta old now units low left = rw e at h in
+    let t = k.grows (map (left_visit p.count) left) (finish_all p.count left) in
+    let closings = closing p.count (search_end found) left in
+    record {
+      own = letters_of (k.before ++ closings);
+      written = rw (map-append, ← append_assoc old (letters_of k.before) (letters_of closings), ← k.written) f;
+      searched = record {
+        tree = t.0;
+        before = k.before;
+        left = left;
+        preorder = t.1;
+        caused = k.caused;
+        ends = cause;
+        written = refl;
+        low = rw t.1 (low_of_walk t.0 k.before t.1 k.over k.reached);
+      };
+      counted =
+          let z = edges-append (letters_of k.before) (letters_of closings) in
+          let none = closing-edges p.count found left in
+          rw map-append (omega (arith, z, none, k.units_are, g));
+    }
+
+letters_left : (n : ℕ) (now new : List ℕ) (hand : Region) (rest : List Region) → n ≡ 1 → new ≡ now ++ 112 ∷ letters_of (map (left_visit n) rest) →
+    new ≡ now ++ letters_of (map (left_visit n) (hand ∷ rest))
+letters_left n now new hand rest one e = rw one e
+
+-- the search stops at the cell in hand, for want of a unit or since it is of one unit
+pub stops_spent : (p : Numbers) (lam : List ℤ) (delta low mid least : ℤ) (old now new : List ℕ) (units : ℕ) (hand : Region) (stack rest : List Region) → p.count ≡ 1 →
+    stack ≡ hand ∷ rest → WantsUnit p lam delta hand → Closes p lam mid rest now new least → IsLesser low (plain_low p lam hand) mid → plain_low p lam hand <ℤ highest →
+    SoFar p lam delta old now units low stack → Searches p lam delta old new units (Spent least)
+stops_spent p lam delta low mid least old now new units hand stack rest one e cause closes lesser small h =
+    ended p lam delta low old now new units units stack (hand ∷ rest) (Spent least) e cause (letters_left p.count now new hand rest one closes.written) (omega arith)
+    (λ t before k over reached. low_left p lam low mid least hand rest one lesser small closes.lows before over reached) h
+
+pub stops_grain : (p : Numbers) (lam : List ℤ) (delta low mid least : ℤ) (old now new : List ℕ) (units : ℕ) (cell : Cell) (stack rest : List Region) → p.count ≡ 1 →
+    stack ≡ region_of cell ∷ rest → IsGrainOf p lam delta (region_of cell) (region_of cell) → Closes p lam mid rest now new least →
+    IsLesser low (plain_low p lam (region_of cell)) mid → plain_low p lam (region_of cell) <ℤ highest →
+    SoFar p lam delta old now units low stack → Searches p lam delta old new units (Grain least cell)
+stops_grain p lam delta low mid least old now new units cell stack rest one e cause closes lesser small h =
+    ended p lam delta low old now new units units stack (region_of cell ∷ rest) (Grain least cell) e cause
+    (letters_left p.count now new (region_of cell) rest one closes.written) (omega arith)
+    (λ t before k over reached. low_left p lam low mid least (region_of cell) rest one lesser small closes.lows before over reached) h

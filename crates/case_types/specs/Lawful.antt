@@ -1,0 +1,58 @@
+-- What makes an answer of one component lawful: a test of the finished lists of its work.
+use Rattle.std.specs.Prelude.{ℕ, ◌≡◌, ◌+◌, ◌^◌, List, [], ◌∷◌, ◌++◌, length, All, Some, slice_get, ℤ, ◌≤ℤ◌}
+use Rattle.case_types.specs.declared.answers.Answer.{Answer}
+use Rattle.case_types.specs.declared.answers.Outcome.{Outcome}
+use Rattle.case_types.specs.declared.answers.Outcome.TheVariants.{Closed, Spent, Grain}
+use Rattle.case_types.specs.declared.cases.Case.{Case}
+use Rattle.case_types.specs.declared.rounds.Column.{Column}
+use Rattle.case_types.specs.declared.rounds.Round.{Round}
+use Rattle.case_types.specs.Answers.{IsAnswer}
+use Rattle.case_types.specs.Bases.{pure_composition, IsSplitOver}
+use Rattle.case_types.specs.Columns.{IsColumn, point_up}
+use Rattle.case_types.specs.Numbers.{numbers_of}
+use Rattle.case_types.specs.Rounds.{Start, own_of, IsRound, AreRefuted}
+use Rattle.case_types.specs.Searches.{SearchEnd, EndsClear, EndsRefuted, EndsSpent, EndsGrain, edges_in}
+
+-- the outcome and the low of the answer are those of the last search
+abbrev pub EndsAs : SearchEnd → Outcome → ℤ → Type 0
+EndsAs (EndsClear low) outcome l = (outcome ≡ Closed) × (l ≡ low)
+EndsAs (EndsRefuted kept) outcome l = ⊥
+EndsAs (EndsSpent low) outcome l = (outcome ≡ Spent) × (l ≡ low)
+EndsAs (EndsGrain low cell) outcome l = (outcome ≡ Grain cell) × (l ≡ low)
+
+-- the component alone, with an energy of at most that at half the densest packing
+pub record IsFirstColumn (c : Case) (col : Column) : Type 0 where
+  pub alone : col.comp ≡ pure_composition
+  pub no_higher : col.up ≤ℤ point_up (numbers_of c) (record { composition = pure_composition; packing = 2 ^ 39 })
+
+-- before the first round there is one column, which is the basis
+abbrev pub beginning : Column → Start
+beginning first = record { columns = 1; pivots = 0; letters = 0; basis = first }
+
+pub record IsLawful (c : Case) (tol budget : ℕ) (a : Answer) : Type 0 where
+  pub answer : IsAnswer c tol budget a
+  -- the columns
+  pub columns : All (λ (col : Column). IsColumn (numbers_of c) col) a.work.columns.items
+  pub first : Column
+  pub first_is : slice_get a.work.columns.items 0 ≡ Some first
+  pub first_good : IsFirstColumn c first
+  -- the rounds: the planes of all but the last are cut off
+  pub earlier : List Round
+  pub last : Round
+  pub rounds : a.work.rounds.items ≡ earlier ++ last ∷ []
+  pub start : Start
+  pub refuted : AreRefuted c tol a.work (beginning first) earlier start
+  -- the last round takes the rest of the lists
+  pub basis : Column
+  pub end : SearchEnd
+  pub ends : IsRound c tol start (own_of a.work start last) last basis end
+  pub all_columns : last.columns ≡ length a.work.columns.items
+  pub all_pivots : last.pivots ≡ length a.work.pivots.items
+  pub all_letters : last.to ≡ length a.work.letters.items
+  -- the units: halvings, refutations and pivots
+  pub units : edges_in a.work.letters.items + length earlier + length a.work.pivots.items ≡ a.units
+  -- the answer
+  pub outcome : EndsAs end a.outcome a.low
+  pub plane : a.plane ≡ last.plane
+  pub u : a.u ≡ last.u
+  pub split : IsSplitOver basis a.split
