@@ -2,6 +2,6 @@ pub mod Narrow
 pub mod Letters
 pub mod Root
 pub mod Pure
-pub mod Trees
 pub mod SoFar
+pub mod Closing
 pub mod Causes

@@ -1,7 +1,8 @@
 -- A search so far: what is written, with any visits that finish the cells on the stack, is a tree.
-use Rattle.std.proofs.Common.{◌≡◌, ℕ, ◌+◌, ◌^◌, ◌⊎◌, List, [], ◌∷◌, ◌++◌, map, ℤ, pos, ◌≤ℤ◌, ◌<ℤ◌, IsFalse, Bool, true, false, cond, inl, inr, Some, refl, sym, ap, ◌∙◌, append_assoc, arith}
+use Rattle.std.proofs.Common.{◌≡◌, ℕ, ◌+◌, ◌^◌, ◌⊎◌, List, [], ◌∷◌, ◌++◌, map, ℤ, pos, neg_ℤ, unsigned_abs, ◌≤◌, ◌≤ℤ◌, ◌<ℤ◌, IsFalse, Bool, true, false, cond, inl, inr, Some, refl, sym, ap, ◌∙◌, append_assoc, arith}
 use Rattle.std.proofs.lemmas.Int.{ints}
 use Rattle.std.proofs.lemmas.List.{append-nil, map-append}
+use Rattle.pr_params.proofs.Alpha.{abs_within}
 use Rattle.case_types.specs.declared.cells.Cell.{Cell}
 use Rattle.case_types.specs.Cells.{Region, region_of, root_region, lower_half, upper_half, misses, Mark, Misses, Plain, Tree, Leaf, Node, Step, Ends, Halves, Visit, visits, letter_of, letters_of, HasVisit, plain_low}
 use Rattle.case_types.specs.Numbers.{Numbers}
@@ -54,6 +55,10 @@ pub plain_at : (p : Numbers) (lam : List ℤ) (low : ℤ) (r : Region) → low �
 plain_at p lam low r e = ap Some (sym e)
 
 -- ---- the lesser of two numbers
+-- no low of a cell is above this
+abbrev pub highest : ℤ
+highest = pos (2 ^ 107)
+
 abbrev pub IsLesser : ℤ → ℤ → ℤ → Type 0
 IsLesser a b low = (low ≤ℤ a) × (low ≤ℤ b) × ((z : ℤ) → z ≤ℤ a → z ≤ℤ b → z ≤ℤ low)
 
@@ -63,6 +68,10 @@ lesser_is a b low h =
       | inl l ↦ let k = h.2 a (omega (arith, ints)) l in inl (omega (arith, ints, k, h.0))
       | inr g ↦ let k = h.2 b g (omega (arith, ints)) in inr (omega (arith, ints, k, h.1))
     ]
+
+pub lesser_small : (a b low : ℤ) → IsLesser a b low → neg_ℤ highest ≤ℤ a → unsigned_abs b ≤ 2 ^ 107 → unsigned_abs low ≤ 2 ^ 107
+lesser_small a b low h least small =
+    let above = h.2 (neg_ℤ highest) least (omega (arith, ints, small)) in abs_within low (2 ^ 107) above (omega (arith, ints, h.1, small))
 
 -- a walk of which no cell is a leaf
 abbrev pub IsHalved : Step → Type 0
@@ -75,9 +84,10 @@ some_leaf (Leaf mark) r vs h = h.0
 some_leaf (Node edge lower upper) r vs h =
     some_leaf lower (lower_half edge r) (visits upper (upper_half edge r) ++ vs) (rw (← append_assoc (visits lower (lower_half edge r)) (visits upper (upper_half edge r)) vs) h.1)
 
--- no low of a cell is above this
-abbrev pub highest : ℤ
-highest = pos (2 ^ 107)
+-- a leaf has the low, or there is no leaf
+abbrev pub IsReached : Numbers → List ℤ → ℤ → List Visit → Type 0
+IsReached p lam low before =
+    HasVisit (λ v. IsStepAt p lam low v.region v.step) before ⊎ ((low ≡ highest) × EachVisit (λ v. IsHalved v.step) before)
 
 pub record SoFar (p : Numbers) (lam : List ℤ) (delta : ℤ) (old now : List ℕ) (units : ℕ) (low : ℤ) (stack : List Region) : Type 0 where
   pub before : List Visit
@@ -86,7 +96,7 @@ pub record SoFar (p : Numbers) (lam : List ℤ) (delta : ℤ) (old now : List �
   pub grows : (rest : List Visit) → Finishes stack rest → (t : Tree) × (visits t (root_region p.count) ≡ before ++ rest)
   pub units_are : units ≡ edges_in (letters_of before)
   pub over : EachVisit (λ v. IsStepOver p lam low v.region v.step) before
-  pub reached : HasVisit (λ v. IsStepAt p lam low v.region v.step) before ⊎ ((low ≡ highest) × EachVisit (λ v. IsHalved v.step) before)
+  pub reached : IsReached p lam low before
 
 start_tree : (r : Region) (rest : List Visit) → Finishes (r ∷ []) rest → (t : Tree) × (visits t r ≡ [] ++ rest)
 unfolding Finishes
@@ -105,13 +115,13 @@ begins p lam delta old units stack e none = record {
 }
 
 -- one more letter
-written_more : (old now next : List ℕ) (before : List Visit) (v : Visit) → now ≡ old ++ letters_of before → next ≡ now ++ letter_of v.step ∷ [] →
+pub written_more : (old now next : List ℕ) (before : List Visit) (v : Visit) → now ≡ old ++ letters_of before → next ≡ now ++ letter_of v.step ∷ [] →
     next ≡ old ++ letters_of (before ++ v ∷ [])
 written_more old now next before v e f = rw (map-append, ← append_assoc old (letters_of before) (letter_of v.step ∷ []), ← e) f
 
 -- the least low with one leaf more
 reached_more : (p : Numbers) (lam : List ℤ) (low next : ℤ) (before : List Visit) (r : Region) → IsLesser low (plain_low p lam r) next → plain_low p lam r ≤ℤ highest →
-    HasVisit (λ v. IsStepAt p lam low v.region v.step) before ⊎ ((low ≡ highest) × EachVisit (λ v. IsHalved v.step) before) →
+    IsReached p lam low before →
     HasVisit (λ v. IsStepAt p lam next v.region v.step) (before ++ plain_visit r ∷ [])
 reached_more p lam low next before r lesser small old =
     elim (lesser_is low (plain_low p lam r) next lesser) [
@@ -140,8 +150,8 @@ stands p lam delta low next old now new units r stack below e f clear lesser sma
 }
 
 reached_halved : (p : Numbers) (lam : List ℤ) (low : ℤ) (before : List Visit) (u : Visit) → IsHalved u.step →
-    HasVisit (λ v. IsStepAt p lam low v.region v.step) before ⊎ ((low ≡ highest) × EachVisit (λ v. IsHalved v.step) before) →
-    HasVisit (λ v. IsStepAt p lam low v.region v.step) (before ++ u ∷ []) ⊎ ((low ≡ highest) × EachVisit (λ v. IsHalved v.step) (before ++ u ∷ []))
+    IsReached p lam low before →
+    IsReached p lam low (before ++ u ∷ [])
 reached_halved p lam low before u h (inl there) = inl (has-left (λ v. IsStepAt p lam low v.region v.step) before (u ∷ []) there)
 reached_halved p lam low before u h (inr none) = inr (none.0, each-append (λ v. IsHalved v.step) before (u ∷ []) none.1 (h, tt))
 
@@ -161,58 +171,7 @@ halves p lam delta low old now new units more r stack below next e e2 f cause on
       reached = reached_halved p lam low h.before u tt h.reached;
     }
 
--- ---- the cells that are left
--- the least with one leaf more
-least_more : (p : Numbers) (lam : List ℤ) (first low next : ℤ) (vs : List Visit) (r : Region) → IsLesser low (plain_low p lam r) next →
-    IsLeastFrom p lam first low vs → IsLeastFrom p lam first next (vs ++ plain_visit r ∷ [])
-least_more p lam first low next vs r lesser h = record {
-  lower = omega (arith, ints, lesser.0, h.lower);
-  over = each-append (λ v. IsStepOver p lam next v.region v.step) vs (plain_visit r ∷ []) (each_over_less p lam low next lesser.0 vs h.over) (lesser.1, tt);
-  reached = elim (lesser_is low (plain_low p lam r) next lesser) [
-    | inr here ↦ inr (has-right (λ v. IsStepAt p lam next v.region v.step) vs (plain_visit r ∷ []) (inl (plain_at p lam next r here)))
-    | inl same ↦ elim h.reached [
-      | inl old ↦ inl (same ∙ old)
-      | inr there ↦ inr (has-left (λ v. IsStepAt p lam next v.region v.step) vs (plain_visit r ∷ []) (rw same there))
-    ]
-  ];
-}
-
--- what is done of the cells that are left, with the letter of the cell in hand
-pub record Closing (p : Numbers) (lam : List ℤ) (first : ℤ) (all : List Region) (old now : List ℕ) (low : ℤ) (stack : List Region) : Type 0 where
-  pub done : List Region
-  pub split : all ≡ done ++ stack
-  pub letters : now ≡ old ++ 112 ∷ letters_of (map plain_visit done)
-  pub lows : IsLeastFrom p lam first low (map plain_visit done)
-
-pub close_begins : (p : Numbers) (lam : List ℤ) (first : ℤ) (all : List Region) (old now : List ℕ) → now ≡ old ++ 112 ∷ [] → Closing p lam first all old now first all
-close_begins p lam first all old now e = record {
-  done = [];
-  split = refl;
-  letters = e;
-  lows = record { lower = omega (arith, ints); over = tt; reached = inl refl };
-}
-
-pub close_more : (p : Numbers) (lam : List ℤ) (first low next : ℤ) (all stack below : List Region) (old now new : List ℕ) (r : Region) →
-    stack ≡ r ∷ below → new ≡ now ++ 112 ∷ [] → IsLesser low (plain_low p lam r) next → Closing p lam first all old now low stack → Closing p lam first all old new next below
-close_more p lam first low next all stack below old now new r e f lesser h = record {
-  done = h.done ++ r ∷ [];
-  split = rw (append_assoc h.done (r ∷ []) below, ← e) h.split;
-  letters = rw map-append (written_more old now new (plain_visit r ∷ map plain_visit h.done) (plain_visit r) h.letters f);
-  lows = rw map-append (least_more p lam first low next (map plain_visit h.done) r lesser h.lows);
-}
-
-pub closed : (p : Numbers) (lam : List ℤ) (first low : ℤ) (all stack : List Region) (old now : List ℕ) → p.count ≡ 1 → stack ≡ [] →
-    Closing p lam first all old now low stack → Closes p lam first all old now low
-closed p lam first low all stack old now one e h =
-    let same : all ≡ h.done = rw (e, append-nil h.done) at h.split in
-    let leaves : map (left_visit p.count) all ≡ map plain_visit h.done = left_plain p.count all one ∙ ap (λ rs. map plain_visit rs) same in
-    record { written = rw leaves h.letters; lows = rw leaves h.lows }
-
 -- ---- the end
-abbrev pub IsReached : Numbers → List ℤ → ℤ → List Visit → Type 0
-IsReached p lam low before =
-    HasVisit (λ v. IsStepAt p lam low v.region v.step) before ⊎ ((low ≡ highest) × EachVisit (λ v. IsHalved v.step) before)
-
 -- the low of a search that leaves cells
 pub low_left : (p : Numbers) (lam : List ℤ) (low mid least : ℤ) (hand : Region) (rest : List Region) → p.count ≡ 1 → IsLesser low (plain_low p lam hand) mid →
     plain_low p lam hand <ℤ highest → IsLeastFrom p lam mid least (map (left_visit p.count) rest) →

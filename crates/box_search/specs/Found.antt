@@ -1,7 +1,7 @@
 -- What the answer of a search says.
 use Rattle.std.specs.Prelude.{ℕ, ◌≡◌, ◌^◌, List, [], ◌∷◌, ℤ, pos, neg_ℤ, ◌≤ℤ◌, ◌<ℤ◌}
 use Rattle.case_types.specs.Answers.{IsGrain}
-use Rattle.case_types.specs.Cells.{Region, region_of, root_region, plain_low, IsOver}
+use Rattle.case_types.specs.Cells.{Region, region_of, root_region, plain_low}
 use Rattle.case_types.specs.Columns.{IsColumn, Refutes, point_of}
 use Rattle.case_types.specs.Numbers.{Numbers}
 use Rattle.case_types.specs.Searches.{SearchEnd, EndsClear, EndsRefuted, EndsSpent, EndsGrain}
@@ -19,18 +19,6 @@ IsFound p lam delta units (AllClear low) = neg_ℤ delta ≤ℤ low
 IsFound p lam delta units (Refuted column) = IsColumn p column × Refutes p lam delta (point_of column)
 IsFound p lam delta units (Spent low) = IsOpen delta low × (units.spent ≡ units.budget)
 IsFound p lam delta units (Grain low cell) = IsOpen delta low × IsGrain p lam delta (region_of cell)
-
--- each cell is cleared down to this low by some tree
-abbrev pub AreOver : Numbers → List ℤ → ℤ → List Region → Type 0
-AreOver p lam low [] = Unit {0}
-AreOver p lam low (r ∷ rest) = IsOver p lam low r × AreOver p lam low rest
-
--- unless the plane is refuted, the low is that of a tree of the whole domain
-abbrev pub IsLowest : Numbers → List ℤ → Found → Type 0
-IsLowest p lam (AllClear low) = IsOver p lam low (root_region p.count)
-IsLowest p lam (Refuted column) = Unit {0}
-IsLowest p lam (Spent low) = IsOver p lam low (root_region p.count)
-IsLowest p lam (Grain low cell) = IsOver p lam low (root_region p.count)
 
 -- unless all is cleared, the whole domain as one cell isn't
 abbrev pub IsRootOpen : Numbers → List ℤ → ℤ → Found → Type 0

@@ -6,7 +6,7 @@ ghost use Rattle.case_types.specs.Cells.{Region, region_of, plain_low, midpoint 
 ghost use Rattle.case_types.specs.Searches.{MiddleRefutes};
 ghost use Rattle.case_types.specs.Columns.{IsColumn, Refutes, point_of};
 ghost use Rattle.case_types.specs.Numbers.{numbers_of};
-ghost use Rattle.box_search.specs.Found.{IsFound, IsPure, AreOver, IsLowest, IsRootOpen, low_of, units_of};
+ghost use Rattle.box_search.specs.Found.{IsFound, IsPure, IsRootOpen, low_of, units_of};
 ghost use Rattle.box_search.specs.Written.{Writes, WritesSome, Closes, Searches};
 
 use crate::found::Found;
@@ -39,7 +39,6 @@ pub fn search(
     ensures pure { IsPure result }
     ensures small { unsigned_abs (low_of result) ≤ 2 ^ 107 }
     ensures root { IsRootOpen (numbers_of params.now.case) plane.now.lam delta result }
-    ensures lowest { IsLowest (numbers_of params.now.case) plane.now.lam result }
     ensures letters { Writes letters.old letters.new (units.new.spent - units.old.spent) }
     ensures searched { Searches (numbers_of params.now.case) plane.now.lam delta letters.old.items letters.new.items (units.new.spent - units.old.spent) result }
     ensures budget { units.new.budget ≡ units.old.budget }
@@ -101,7 +100,6 @@ fn close(params: &Params, plane: &Plane, low: i128, letters: &mut Letters, mut s
     requires room { length stack + 1 ≤ letters.old.spare }
     requires small { unsigned_abs low ≤ 2 ^ 107 }
     ensures low { result ≤ℤ low }
-    ensures over { AreOver (numbers_of params.now.case) plane.now.lam result stack }
     ensures small { unsigned_abs result ≤ 2 ^ 107 }
     ensures letters { WritesSome letters.old letters.new (length stack + 1) }
     ensures closes { Closes (numbers_of params.now.case) plane.now.lam low stack letters.old.items letters.new.items result }

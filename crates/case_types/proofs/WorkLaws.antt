@@ -22,6 +22,7 @@ use Rattle.case_types.specs.Lawful.{EndsAs, IsLawful, beginning}
 use Rattle.case_types.specs.Numbers.{Numbers, numbers_of}
 use Rattle.case_types.specs.Rounds.{Start, Own, own_of, round_end, quarter_of, IsSearchedRound, IsCutShort, IsRound, AreRefuted, after}
 use Rattle.case_types.specs.Searches.{SearchEnd, EndsClear, EndsRefuted, EndsSpent, EndsGrain, IsCutOff, OfHand, edges_in}
+use Rattle.case_types.proofs.Walks.{cuts_off}
 use Rattle.case_types.specs.WorkLaws.{is_refuted, refutations, SomeRound, UnitsAreWork, SpentHasWorked, ColumnsAreKept, IsLower, FallsAfter, Falls, PlanesFall, ClosedIsNear}
 
 -- ---- counts
@@ -70,11 +71,6 @@ columns_are_kept c tol budget a h =
     omega (arith, n, one.1, h.all_columns, h.ends.columns)
 
 -- ---- planes
--- the column that is kept cuts the plane off
-cuts_off : (p : Numbers) (lam : List ℤ) (delta : ℤ) (kept : Column) (left : List Region) → OfHand (IsCutOff p lam delta kept) left → IsColumn p kept × Refutes p lam delta (point_of kept)
-cuts_off p lam delta kept [] h = absurd h
-cuts_off p lam delta kept (hand ∷ rest) h = (h.column, h.refutes)
-
 -- a refuted round is no round that was cut short
 searched_there : (c : Case) (tol : ℕ) (s : Start) (own : Own) (r : Round) (basis kept : Column) → IsRound c tol s own r basis (EndsRefuted kept) →
     IsSearchedRound c tol own basis r (EndsRefuted kept)

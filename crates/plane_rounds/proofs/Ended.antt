@@ -9,12 +9,14 @@ use Rattle.case_types.specs.declared.answers.Answer.{Answer}
 use Rattle.case_types.specs.declared.rounds.Column.{Column}
 use Rattle.case_types.specs.declared.units.Units.{Units}
 use Rattle.case_types.specs.Answers.{HasCause, delta_of}
-use Rattle.case_types.specs.Cells.{root_region, IsOver}
+use Rattle.case_types.specs.Cells.{Tree, visits, root_region, IsOver}
+use Rattle.case_types.specs.Searches.{HasLeastLow}
+use Rattle.case_types.proofs.Walks.{tree_over}
 use Rattle.case_types.specs.Columns.{IsColumn}
 use Rattle.case_types.specs.Numbers.{Numbers, numbers_of}
 use Rattle.box_search.specs.declared.found.Found.{Found}
 use Rattle.box_search.specs.declared.found.Found.TheVariants.{AllClear, Refuted, Spent, Grain}
-use Rattle.box_search.specs.Found.{IsFound, IsLowest, low_of, units_of}
+use Rattle.box_search.specs.Found.{IsFound, low_of, search_end, units_of}
 use Rattle.plane_rounds.specs.declared.answers.Ending.{Ending}
 use Rattle.plane_rounds.specs.declared.answers.Next.TheVariants.{Enters, Ends}
 use Rattle.plane_rounds.specs.Following.{Follows}
@@ -27,11 +29,12 @@ follows_low (Spent low) e f h = rw f.1 (omega (arith, h))
 follows_low (Grain low cell) e f h = rw f.1 (omega (arith, h))
 
 -- and so has the tree of the whole domain
-pub lowest_of : (p : Numbers) (lam : List ℤ) (found : Found) (e : Ending) → Follows found (Ends e) → IsLowest p lam found → IsOver p lam e.low (root_region p.count)
-lowest_of p lam (AllClear low) e f is = rw f.1 is
-lowest_of p lam (Refuted column) e f is = absurd f
-lowest_of p lam (Spent low) e f is = rw f.1 is
-lowest_of p lam (Grain low cell) e f is = rw f.1 is
+pub lowest_of : (p : Numbers) (lam : List ℤ) (found : Found) (e : Ending) (tree : Tree) → Follows found (Ends e) →
+    HasLeastLow p lam (search_end found) (visits tree (root_region p.count)) → IsOver p lam e.low (root_region p.count)
+lowest_of p lam (AllClear low) e tree f is = rw f.1 record { tree = tree; over = tree_over p lam low tree (root_region p.count) is.over }
+lowest_of p lam (Refuted column) e tree f is = absurd f
+lowest_of p lam (Spent low) e tree f is = rw f.1 record { tree = tree; over = tree_over p lam low tree (root_region p.count) is.over }
+lowest_of p lam (Grain low cell) e tree f is = rw f.1 record { tree = tree; over = tree_over p lam low tree (root_region p.count) is.over }
 
 -- why the flash ended
 pub cause_of : (c : Case) (tol budget : ℕ) (a : Answer) (found : Found) (e : Ending) (units : Units) → Follows found (Ends e) →

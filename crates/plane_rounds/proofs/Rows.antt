@@ -20,7 +20,7 @@ use Rattle.case_types.specs.Lawful.{beginning}
 use Rattle.case_types.specs.Numbers.{Numbers, numbers_of}
 use Rattle.case_types.specs.Rounds.{Start, Own, own_of, IsRound, AreRefuted, after}
 use Rattle.case_types.specs.Searches.{EndsRefuted, IsCutOff, OfHand, HasEndCause, edges_in}
-use Rattle.case_types.proofs.Walks.{edges-append}
+use Rattle.case_types.proofs.Walks.{cuts_off, edges-append}
 use Rattle.box_search.specs.declared.found.Found.{Found}
 use Rattle.box_search.specs.declared.found.Found.TheVariants.{Refuted}
 use Rattle.box_search.specs.Found.{search_end, units_of}
@@ -143,10 +143,6 @@ round_went c tol spent units old new first basis plane found one some column f w
     }
 
 -- ---- a plane that is cut off
-cut_off_is : (p : Numbers) (lam : List ℤ) (delta : ℤ) (kept : Column) (left : List Region) → OfHand (IsCutOff p lam delta kept) left → IsColumn p kept × Refutes p lam delta (point_of kept)
-cut_off_is p lam delta kept [] h = absurd h
-cut_off_is p lam delta kept (hand ∷ rest) h = (h.column, h.refutes)
-
 cheaper_cost : (tol : ℕ) (basis kept up at : ℤ) → 1 ≤ tol → (kept *ℤ pos (2 ^ 10)) <ℤ (up +ℤ pos (2 ^ 10)) → (up +ℤ delta_of tol) <ℤ at → at ≡ basis *ℤ pos (2 ^ 10) → kept <ℤ basis
 cheaper_cost tol basis kept up at some h k e = let l : (up +ℤ delta_of tol) <ℤ (basis *ℤ pos (2 ^ 10)) = rw e at k in omega (arith, ints, some, h, l)
 
@@ -185,7 +181,7 @@ refuted_more c tol spent next units old new first basis kept plane found one som
     let r = noted_round old new basis plane found in
     let cause : OfHand (IsCutOff (numbers_of c) plane.lam (delta_of tol) kept) w.searched.searched.left =
     rw is at w.searched.searched.ends in
-    let new_column = cut_off_is (numbers_of c) plane.lam (delta_of tol) kept w.searched.searched.left cause in
+    let new_column = cuts_off (numbers_of c) plane.lam (delta_of tol) kept w.searched.searched.left cause in
     let less = cheaper c tol plane.lam basis kept one some w.plane_is new_column.0 new_column.1 in
     let cols : new.columns.items ≡ old.columns.items ++ kept ∷ [] = w.kept ∙ ap (λ g. old.columns.items ++ columns_of g) is in
     let n : length new.columns.items ≡ length old.columns.items + 1 = rw cols (length-append old.columns.items (kept ∷ [])) in

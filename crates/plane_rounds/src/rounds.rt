@@ -2,7 +2,7 @@
 
 ghost use Rattle.std.specs.Prelude.{◌≡◌, ◌≤◌, ◌<◌, ◌+◌, ◌-◌, ◌^◌, ◌++◌, ◌∷◌, [], ℤ, pos, ◌≤ℤ◌, length, unsigned_abs};
 ghost use Rattle.case_types.specs.Numbers.{numbers_of};
-ghost use Rattle.box_search.specs.Found.{IsFound, IsLowest, IsPure, IsRootOpen, low_of, units_of};
+ghost use Rattle.box_search.specs.Found.{IsFound, IsPure, IsRootOpen, low_of, units_of};
 ghost use Rattle.box_search.specs.Written.{Writes, Searches};
 ghost use Rattle.case_types.specs.declared.rounds.RoundEnd.TheVariants.{Spent};
 ghost use Rattle.plane_rounds.specs.Noted.{columns_of, end_named, round_noted};
@@ -30,7 +30,6 @@ pub fn round(
     requires counted { IsCounted units.old.spent work.old }
     ensures found { IsFound (numbers_of params.now.case) plane.now.lam delta units.new result }
     ensures root { IsRootOpen (numbers_of params.now.case) plane.now.lam delta result }
-    ensures lowest { IsLowest (numbers_of params.now.case) plane.now.lam result }
     ensures pure { IsPure result }
     ensures small { unsigned_abs (low_of result) ≤ 2 ^ 107 }
     ensures some { units_of result ≡ 1 → 1 ≤ length work.new.columns.items }

@@ -7,8 +7,8 @@ use Rattle.case_types.specs.Cells.{region_of}
 use Rattle.case_types.specs.Numbers.{numbers_of}
 use Rattle.box_search.proofs.Letters.{no_more, one_more}
 use Rattle.box_search.proofs.Pure.{count_is}
-use Rattle.box_search.proofs.SoFar.{IsLesser, close_begins, close_more, closed}
-use Rattle.box_search.proofs.Trees.{leads_leaf, leads_none}
+use Rattle.box_search.proofs.SoFar.{IsLesser}
+use Rattle.box_search.proofs.Closing.{close_begins, close_more, closed}
 use Rattle.box_search.proofs.searching.close.Goals as goal
 
 pub loop-cell-preserved : goal.loop-cell-preserved
@@ -28,11 +28,6 @@ loop-cell-preserved c =
     let read = back c.smaller-low.result (omega (arith, size)) in
     record {
       low = omega (arith, ints, old.low, c.smaller-low.ensures.first);
-      over =
-          rw read
-          (leads_leaf (numbers_of c.args.params.now.case) c.args.plane.now.lam c.smaller-low.result c.low_plain.result
-          (region_of c.in-Some.cell) c.loop-cell.stack c.pop.new.self c.args.stack
-          c.in-Some.ensures.some c.low_plain.ensures.value (omega (arith, ints, c.smaller-low.ensures.first)) (omega (arith, ints, c.smaller-low.ensures.second, c.low_plain.ensures.small)) old.over);
       small = rw (back c.smaller-low.result (omega (arith, size))) size;
       letters = rw count at more;
       left = omega (arith, n, old.left);
@@ -50,7 +45,6 @@ loop-cell-init c =
     let none : length c.args.stack - length c.args.stack + 1 ≡ 0 + 1 = omega arith in
     record {
       low = omega (arith, ints);
-      over = λ l h all. all;
       small = rw (back c.args.low (omega (arith, c.requires.small))) c.requires.small;
       letters = rw none (one_more old old c.push.new.self 0 112 (no_more old) c.push.ensures.items c.push.ensures.room);
       left = omega arith;
@@ -59,9 +53,6 @@ loop-cell-init c =
           rw (back c.args.low (omega (arith, c.requires.small)))
           (close_begins (numbers_of c.args.params.now.case) c.args.plane.now.lam c.args.low c.args.stack old.items c.push.new.self.items c.push.ensures.items);
     }
-
-pub returns-clause-over : goal.returns-clause-over
-returns-clause-over c = leads_none (numbers_of c.args.params.now.case) c.args.plane.now.lam c.loop-cell.stack c.args.stack c.in_default.ensures.none c.loop-cell.invariant.over
 
 pub returns-clause-closes : goal.returns-clause-closes
 returns-clause-closes c =

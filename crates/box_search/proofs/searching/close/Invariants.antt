@@ -1,14 +1,12 @@
 use Rattle.std.proofs.Common.{◌+◌, ◌-◌, ◌≤◌, ◌≤ℤ◌, ◌^◌, unsigned_abs, length}
 use Rattle.case_types.specs.Numbers.{numbers_of}
 use Rattle.box_search.specs.Written.{WritesSome}
-use Rattle.box_search.proofs.SoFar.{Closing}
-use Rattle.box_search.proofs.Trees.{Leads}
+use Rattle.box_search.proofs.Closing.{Closing}
 use Rattle.box_search.proofs.searching.close.Given as goal
 
 abbrev pub invariant-loop-cell : goal.invariant-loop-cell
 invariant-loop-cell l = record {
   low : l.low ≤ℤ l.fn.low;
-  over : Leads (numbers_of l.params.case) l.plane.lam l.low l.stack l.fn.stack;
   small : unsigned_abs l.low ≤ 2 ^ 107;
   letters : WritesSome l.fn.letters l.letters (length l.fn.stack - length l.stack + 1);
   left : length l.stack ≤ length l.fn.stack;

@@ -1,4 +1,5 @@
-use Rattle.std.proofs.Common.{◌≡◌, ◌≤◌, ◌+◌, ◌-◌, ◌*◌, ◌^◌, [], ◌∷◌, length, pos, neg_ℤ, ◌<ℤ◌, to_z, of_z, ◌≤ℤ◌, ap, sym, refl, ◌∙◌, inl, inr, arith}
+mod Hand
+use Rattle.std.proofs.Common.{◌≡◌, ◌≤◌, ◌+◌, ◌-◌, ◌*◌, ◌^◌, [], ◌∷◌, length, ℕ, List, ℤ, pos, neg_ℤ, unsigned_abs, ◌<ℤ◌, to_z, of_z, ◌≤ℤ◌, ap, sym, refl, ◌∙◌, inl, inr, arith}
 use Rattle.std.specs.Int.{w128}
 use Rattle.std.proofs.lemmas.Int.{ints}
 use Rattle.std.proofs.lemmas.List.{append-nil}
@@ -6,41 +7,19 @@ use Rattle.log_laws.proofs.Exports.{back}
 use Rattle.case_types.specs.Cells.{region_of, root_region, plain_low}
 use Rattle.case_types.specs.Columns.{point_of}
 use Rattle.case_types.specs.Numbers.{numbers_of}
-use Rattle.case_types.specs.Searches.{IsUncleared}
-use Rattle.box_search.specs.declared.found.Found.TheVariants.{AllClear, Refuted}
-use Rattle.pr_params.proofs.Alpha.{abs_within}
+use Rattle.case_types.specs.Searches.{IsUncleared, WantsUnit}
+use Rattle.case_types.specs.Spared.{Spared}
+use Rattle.box_search.specs.declared.found.Found.TheVariants.{AllClear, Refuted, Spent}
+use Rattle.box_search.specs.Written.{Writes, WritesSome, Closes, Searches}
 use Rattle.box_search.proofs.Letters.{no_more, one_more, then_more, writes}
 use Rattle.box_search.proofs.Narrow.{narrow_root, narrow_rest, narrow_halves}
 use Rattle.box_search.proofs.Pure.{count_is, packing_named, not_one}
 use Rattle.box_search.proofs.Root.{begun_rest, root_open}
 use Rattle.box_search.proofs.Causes.{middle_refutes, uncleared, cut_off, unit_edge, no_unit_edge, packing_halved}
-use Rattle.box_search.proofs.SoFar.{IsLesser, highest, none_misses, begins, stands, halves, ended, stops_spent, stops_grain, low_clear}
-use Rattle.box_search.proofs.Trees.{leads_first, leads_leaf, leads_halves, leads_none, leads_close}
+use Rattle.box_search.proofs.SoFar.{IsLesser, lesser_small, highest, none_misses, begins, stands, halves, ended, stops_spent, stops_grain, low_clear}
+use Rattle.box_search.proofs.searching.search.Answers.Hand.{Mid, here_low, delta_read, not_clear, root_not_clear, cell_uncleared, far_below, lesser_of, mid_small, stopped_letters, stopped}
 use Rattle.box_search.proofs.searching.search.Goals as goal
-use Rattle.box_search.proofs.searching.search.Goals.{Else-here-delta, After-cell-else-is_spent-2-1}
-
--- ---- the cell in hand isn't cleared
-here_low : (c : Else-here-delta) → c.low_plain-here.result <ℤ neg_ℤ c.args.delta
-here_low c = omega (arith, ints, c.if-here-delta.false, c.requires.delta_low, c.requires.delta_high, c.low_plain-here.ensures.small)
-
-delta_read : (c : Else-here-delta) → to_z w128 (of_z w128 c.args.delta) ≡ c.args.delta
-delta_read c = back c.args.delta (omega (arith, ints, c.requires.delta_low, c.requires.delta_high))
-
-not_clear : (c : Else-here-delta) → plain_low (numbers_of c.args.params.now.case) c.args.plane.now.lam (region_of c.in-Some.cell) <ℤ neg_ℤ c.args.delta
-not_clear c = rw (← c.low_plain-here.ensures.value) (here_low c)
-
-root_not_clear : (c : Else-here-delta) →
-    plain_low (numbers_of c.args.params.now.case) c.args.plane.now.lam (root_region (numbers_of c.args.params.now.case).count) <ℤ neg_ℤ c.args.delta
-root_not_clear c =
-    root_open (numbers_of c.args.params.now.case) c.args.plane.now.lam c.args.delta (region_of c.in-Some.cell) c.loop-cell.stack c.pop.new.self
-    c.in-Some.ensures.some (rw (delta_read c) at c.loop-cell.invariant.begun) (not_clear c)
-
-cell_uncleared : (c : Else-here-delta) → IsUncleared (numbers_of c.args.params.now.case) c.args.plane.now.lam c.args.delta (region_of c.in-Some.cell)
-cell_uncleared c =
-    uncleared (numbers_of c.args.params.now.case) c.args.plane.now.lam c.args.delta (region_of c.in-Some.cell) (count_is c.args.params.now.case ∙ c.requires.one) (not_clear c)
-
-far_below : (c : Else-here-delta) → plain_low (numbers_of c.args.params.now.case) c.args.plane.now.lam (region_of c.in-Some.cell) <ℤ highest
-far_below c = let h = not_clear c in omega (arith, ints, h, c.requires.delta_low)
+use Rattle.box_search.proofs.searching.search.Goals.{After-cell-else-is_spent-2-1}
 
 -- ---- the loop
 pub loop-cell-init : goal.loop-cell-init
@@ -51,7 +30,6 @@ loop-cell-init c =
     record {
       narrow = rw (c.new-stack.ensures, c.requires.one) narrow_root;
       begun = inl first;
-      over = leads_first (numbers_of c.args.params.now.case) c.args.plane.now.lam (pos (2 ^ 107)) c.new-stack.result first;
       low = omega (arith, ints, c.requires.delta_low, c.requires.delta_high);
       high = omega (arith, ints);
       budget = refl;
@@ -85,11 +63,6 @@ loop-cell-preserved-then-here-delta c =
     record {
       narrow = narrow_rest (region_of c.in-Some.cell) c.pop.new.self (rw e at old.narrow);
       begun = begun_rest (numbers_of c.args.params.now.case) c.args.plane.now.lam (to_z w128 (of_z w128 c.args.delta)) (region_of c.in-Some.cell) c.loop-cell.stack c.pop.new.self e old.begun;
-      over =
-          rw read
-          (leads_leaf (numbers_of c.args.params.now.case) c.args.plane.now.lam c.smaller-low.result c.low_plain-here.result
-          (region_of c.in-Some.cell) c.loop-cell.stack c.pop.new.self (root_region (numbers_of c.args.params.now.case).count ∷ [])
-          e c.low_plain-here.ensures.value (omega (arith, ints, c.smaller-low.ensures.first)) (omega (arith, ints, c.smaller-low.ensures.second, c.low_plain-here.ensures.small)) old.over);
       low = omega (arith, ints, either);
       high = omega (arith, ints, old.high, c.smaller-low.ensures.first);
       budget = old.budget;
@@ -139,9 +112,6 @@ loop-cell-preserved c =
     record {
       narrow = rw c.push_halves.ensures narrow.1;
       begun = rw delta (inr (inr (root_not_clear here.Else-here-delta)));
-      over =
-          leads_halves (numbers_of c.args.params.now.case) c.args.plane.now.lam 3 (region_of c.in-Some.cell)
-          c.loop-cell.stack c.pop.new.self c.push_halves.new.self (root_region (numbers_of c.args.params.now.case).count ∷ []) e c.push_halves.ensures old.over;
       low = old.low;
       high = old.high;
       budget = c.spend-else-is_spent-2.ensures.budget ∙ old.budget;
@@ -163,23 +133,20 @@ loop-cell-preserved c =
 
 pub close-low-requires-clause-small : goal.close-low-requires-clause-small
 close-low-requires-clause-small c =
-    let above = c.smaller.ensures.either (neg_ℤ (pos (2 ^ 107))) (omega (arith, ints, c.loop-cell.invariant.low, c.requires.delta_high))
-    (omega (arith, ints, c.low_plain-here.ensures.small)) in
-    let size = abs_within c.smaller.result (2 ^ 107) above (omega (arith, ints, c.smaller.ensures.second, c.low_plain-here.ensures.small)) in
+    let here = (goal.at.close-low-requires-clause-small c).Else-here-delta in
+    let size = mid_small here c.smaller.result (c.smaller.ensures.first, c.smaller.ensures.second, c.smaller.ensures.either) in
     rw (back c.smaller.result (omega (arith, size))) size
 
 pub close-low-requires-then-is_unit-clause-small : goal.close-low-requires-then-is_unit-clause-small
 close-low-requires-then-is_unit-clause-small c =
-    let above = c.smaller-then-is_unit.ensures.either (neg_ℤ (pos (2 ^ 107))) (omega (arith, ints, c.loop-cell.invariant.low, c.requires.delta_high))
-    (omega (arith, ints, c.low_plain-here.ensures.small)) in
-    let size = abs_within c.smaller-then-is_unit.result (2 ^ 107) above (omega (arith, ints, c.smaller-then-is_unit.ensures.second, c.low_plain-here.ensures.small)) in
+    let here = (goal.at.close-low-requires-then-is_unit-clause-small c).Else-here-delta in
+    let size = mid_small here c.smaller-then-is_unit.result (c.smaller-then-is_unit.ensures.first, c.smaller-then-is_unit.ensures.second, c.smaller-then-is_unit.ensures.either) in
     rw (back c.smaller-then-is_unit.result (omega (arith, size))) size
 
 pub close-low-requires-then-is_spent-2-clause-small : goal.close-low-requires-then-is_spent-2-clause-small
 close-low-requires-then-is_spent-2-clause-small c =
-    let above = c.smaller-then-is_spent-2.ensures.either (neg_ℤ (pos (2 ^ 107))) (omega (arith, ints, c.loop-cell.invariant.low, c.requires.delta_high))
-    (omega (arith, ints, c.low_plain-here.ensures.small)) in
-    let size = abs_within c.smaller-then-is_spent-2.result (2 ^ 107) above (omega (arith, ints, c.smaller-then-is_spent-2.ensures.second, c.low_plain-here.ensures.small)) in
+    let here = (goal.at.close-low-requires-then-is_spent-2-clause-small c).Else-here-delta in
+    let size = mid_small here c.smaller-then-is_spent-2.result (c.smaller-then-is_spent-2.ensures.first, c.smaller-then-is_spent-2.ensures.second, c.smaller-then-is_spent-2.ensures.either) in
     rw (back c.smaller-then-is_spent-2.result (omega (arith, size))) size
 
 -- ---- the ends
@@ -215,28 +182,13 @@ returns-then-is_spent-2-clause-found c =
     )
 
 pub returns-then-is_spent-clause-letters : goal.returns-then-is_spent-clause-letters
-returns-then-is_spent-clause-letters c =
-    let old = c.loop-cell.invariant in
-    let n : length c.loop-cell.stack ≡ length c.pop.new.self + 1 = ap length c.in-Some.ensures.some ∙ omega arith in
-    let spent = c.loop-cell.units.spent - c.args.units.now.spent in
-    let all = then_more c.args.letters.now c.loop-cell.letters c.close-low.new.letters (2 * spent + 1 - length c.loop-cell.stack) (length c.pop.new.self + 1) old.letters c.close-low.ensures.letters in
-    writes c.args.letters.now c.close-low.new.letters (2 * spent + 1 - length c.loop-cell.stack + (length c.pop.new.self + 1)) spent all (omega (arith, n, old.counted))
+returns-then-is_spent-clause-letters c = stopped_letters (goal.at.returns-then-is_spent-clause-letters c).Else-here-delta c.close-low.new.letters c.close-low.ensures.letters
 
 pub returns-then-is_unit-clause-letters : goal.returns-then-is_unit-clause-letters
-returns-then-is_unit-clause-letters c =
-    let old = c.loop-cell.invariant in
-    let n : length c.loop-cell.stack ≡ length c.pop.new.self + 1 = ap length c.in-Some.ensures.some ∙ omega arith in
-    let spent = c.loop-cell.units.spent - c.args.units.now.spent in
-    let all = then_more c.args.letters.now c.loop-cell.letters c.close-low-then-is_unit.new.letters (2 * spent + 1 - length c.loop-cell.stack) (length c.pop.new.self + 1) old.letters c.close-low-then-is_unit.ensures.letters in
-    writes c.args.letters.now c.close-low-then-is_unit.new.letters (2 * spent + 1 - length c.loop-cell.stack + (length c.pop.new.self + 1)) spent all (omega (arith, n, old.counted))
+returns-then-is_unit-clause-letters c = stopped_letters (goal.at.returns-then-is_unit-clause-letters c).Else-here-delta c.close-low-then-is_unit.new.letters c.close-low-then-is_unit.ensures.letters
 
 pub returns-then-is_spent-2-clause-letters : goal.returns-then-is_spent-2-clause-letters
-returns-then-is_spent-2-clause-letters c =
-    let old = c.loop-cell.invariant in
-    let n : length c.loop-cell.stack ≡ length c.pop.new.self + 1 = ap length c.in-Some.ensures.some ∙ omega arith in
-    let spent = c.loop-cell.units.spent - c.args.units.now.spent in
-    let all = then_more c.args.letters.now c.loop-cell.letters c.close-low-then-is_spent-2.new.letters (2 * spent + 1 - length c.loop-cell.stack) (length c.pop.new.self + 1) old.letters c.close-low-then-is_spent-2.ensures.letters in
-    writes c.args.letters.now c.close-low-then-is_spent-2.new.letters (2 * spent + 1 - length c.loop-cell.stack + (length c.pop.new.self + 1)) spent all (omega (arith, n, old.counted))
+returns-then-is_spent-2-clause-letters c = stopped_letters (goal.at.returns-then-is_spent-2-clause-letters c).Else-here-delta c.close-low-then-is_spent-2.new.letters c.close-low-then-is_spent-2.ensures.letters
 
 pub returns-in-Some-refuting-clause-letters : goal.returns-in-Some-refuting-clause-letters
 returns-in-Some-refuting-clause-letters c =
@@ -245,61 +197,19 @@ returns-in-Some-refuting-clause-letters c =
     writes c.args.letters.now c.loop-cell.letters (2 * spent + 1 - length c.loop-cell.stack) (c.spend.new.self.spent - c.args.units.now.spent) old.letters
     (omega (arith, c.spend.ensures.spent, old.spent))
 
-pub returns-then-is_spent-clause-lowest : goal.returns-then-is_spent-clause-lowest
-returns-then-is_spent-clause-lowest c =
-    rw (back c.close-low.result (omega (arith, c.close-low.ensures.small)))
-    (leads_close (numbers_of c.args.params.now.case) c.args.plane.now.lam c.low_plain-here.result (region_of c.in-Some.cell) c.loop-cell.stack c.pop.new.self
-    (root_region (numbers_of c.args.params.now.case).count ∷ []) c.in-Some.ensures.some c.low_plain-here.ensures.value
-    (omega (arith, ints, c.smaller.ensures.first, c.close-low.ensures.low)) (omega (arith, ints, c.smaller.ensures.second, c.close-low.ensures.low, c.low_plain-here.ensures.small))
-    c.close-low.ensures.over c.loop-cell.invariant.over).0
-
-pub returns-then-is_unit-clause-lowest : goal.returns-then-is_unit-clause-lowest
-returns-then-is_unit-clause-lowest c =
-    rw (back c.close-low-then-is_unit.result (omega (arith, c.close-low-then-is_unit.ensures.small)))
-    (leads_close (numbers_of c.args.params.now.case) c.args.plane.now.lam c.low_plain-here.result (region_of c.in-Some.cell) c.loop-cell.stack c.pop.new.self
-    (root_region (numbers_of c.args.params.now.case).count ∷ []) c.in-Some.ensures.some c.low_plain-here.ensures.value
-    (omega (arith, ints, c.smaller-then-is_unit.ensures.first, c.close-low-then-is_unit.ensures.low)) (omega (arith, ints, c.smaller-then-is_unit.ensures.second, c.close-low-then-is_unit.ensures.low, c.low_plain-here.ensures.small))
-    c.close-low-then-is_unit.ensures.over c.loop-cell.invariant.over).0
-
-pub returns-then-is_spent-2-clause-lowest : goal.returns-then-is_spent-2-clause-lowest
-returns-then-is_spent-2-clause-lowest c =
-    rw (back c.close-low-then-is_spent-2.result (omega (arith, c.close-low-then-is_spent-2.ensures.small)))
-    (leads_close (numbers_of c.args.params.now.case) c.args.plane.now.lam c.low_plain-here.result (region_of c.in-Some.cell) c.loop-cell.stack c.pop.new.self
-    (root_region (numbers_of c.args.params.now.case).count ∷ []) c.in-Some.ensures.some c.low_plain-here.ensures.value
-    (omega (arith, ints, c.smaller-then-is_spent-2.ensures.first, c.close-low-then-is_spent-2.ensures.low)) (omega (arith, ints, c.smaller-then-is_spent-2.ensures.second, c.close-low-then-is_spent-2.ensures.low, c.low_plain-here.ensures.small))
-    c.close-low-then-is_spent-2.ensures.over c.loop-cell.invariant.over).0
-
-pub returns-clause-lowest : goal.returns-clause-lowest
-returns-clause-lowest c =
-    (leads_none (numbers_of c.args.params.now.case) c.args.plane.now.lam c.loop-cell.stack (root_region (numbers_of c.args.params.now.case).count ∷ [])
-    c.in_default.ensures.none c.loop-cell.invariant.over).0
-
 -- ---- what is written
 
 pub returns-then-is_spent-clause-searched : goal.returns-then-is_spent-clause-searched
 returns-then-is_spent-clause-searched c =
     let case = c.args.params.now.case in
     let here = (goal.at.returns-then-is_spent-clause-searched c).Else-here-delta in
-    let delta = delta_read here in
-    let lesser : IsLesser (to_z w128 c.loop-cell.low-bits) c.low_plain-here.result c.smaller.result = (
-      omega (arith, ints, c.smaller.ensures.first),
-      omega (arith, ints, c.smaller.ensures.second, c.low_plain-here.ensures.small),
-      λ z h k. c.smaller.ensures.either z (omega (arith, ints, h)) (omega (arith, ints, k, c.low_plain-here.ensures.small)),
-    ) in
-    let above = c.smaller.ensures.either (neg_ℤ (pos (2 ^ 107))) (omega (arith, ints, c.loop-cell.invariant.low, c.requires.delta_high))
-    (omega (arith, ints, c.low_plain-here.ensures.small)) in
-    let size = abs_within c.smaller.result (2 ^ 107) above (omega (arith, ints, c.smaller.ensures.second, c.low_plain-here.ensures.small)) in
-    let refutes = rw delta at c.in-Some-refuting.ensures.refutes in
-    let closes = rw (back c.smaller.result (omega (arith, size))) at c.close-low.ensures.closes in
+    let refutes = rw (delta_read here) at c.in-Some-refuting.ensures.refutes in
     rw (back c.close-low.result (omega (arith, c.close-low.ensures.small)))
-    (stops_spent (numbers_of case) c.args.plane.now.lam c.args.delta (to_z w128 c.loop-cell.low-bits) c.smaller.result c.close-low.result c.args.letters.now.items c.loop-cell.letters.items
-    c.close-low.new.letters.items (c.loop-cell.units.spent - c.args.units.now.spent) (region_of c.in-Some.cell) c.loop-cell.stack c.pop.new.self (count_is case ∙ c.requires.one)
-    c.in-Some.ensures.some
+    (stopped here c.smaller.result c.close-low.result c.close-low.new.letters.items (c.smaller.ensures.first, c.smaller.ensures.second, c.smaller.ensures.either)
     (record {
       uncleared = cell_uncleared here;
       wants = inl (middle_refutes (numbers_of case) c.args.plane.now.lam c.args.delta (region_of c.in-Some.cell) (point_of c.in-Some-refuting.column) c.in-Some-refuting.ensures.middle refutes);
-    })
-    closes (rw c.low_plain-here.ensures.value at lesser) (far_below here) (rw delta at c.loop-cell.invariant.so_far))
+    }) c.close-low.ensures.closes)
 
 pub returns-in-Some-refuting-clause-searched : goal.returns-in-Some-refuting-clause-searched
 returns-in-Some-refuting-clause-searched c =
@@ -320,15 +230,8 @@ returns-then-is_unit-clause-searched c =
     let case = c.args.params.now.case in
     let here = (goal.at.returns-then-is_unit-clause-searched c).Else-here-delta in
     let delta = delta_read here in
-    let lesser : IsLesser (to_z w128 c.loop-cell.low-bits) c.low_plain-here.result c.smaller-then-is_unit.result = (
-      omega (arith, ints, c.smaller-then-is_unit.ensures.first),
-      omega (arith, ints, c.smaller-then-is_unit.ensures.second, c.low_plain-here.ensures.small),
-      λ z h k. c.smaller-then-is_unit.ensures.either z (omega (arith, ints, h)) (omega (arith, ints, k, c.low_plain-here.ensures.small)),
-    ) in
-    let above = c.smaller-then-is_unit.ensures.either (neg_ℤ (pos (2 ^ 107))) (omega (arith, ints, c.loop-cell.invariant.low, c.requires.delta_high))
-    (omega (arith, ints, c.low_plain-here.ensures.small)) in
-    let size = abs_within c.smaller-then-is_unit.result (2 ^ 107) above (omega (arith, ints, c.smaller-then-is_unit.ensures.second, c.low_plain-here.ensures.small)) in
-    let closes = rw (back c.smaller-then-is_unit.result (omega (arith, size))) at c.close-low-then-is_unit.ensures.closes in
+    let mid : Mid here c.smaller-then-is_unit.result = (c.smaller-then-is_unit.ensures.first, c.smaller-then-is_unit.ensures.second, c.smaller-then-is_unit.ensures.either) in
+    let closes = rw (back c.smaller-then-is_unit.result (omega (arith, mid_small here c.smaller-then-is_unit.result mid))) at c.close-low-then-is_unit.ensures.closes in
     rw (back c.close-low-then-is_unit.result (omega (arith, c.close-low-then-is_unit.ensures.small)))
     (stops_grain (numbers_of case) c.args.plane.now.lam c.args.delta (to_z w128 c.loop-cell.low-bits) c.smaller-then-is_unit.result c.close-low-then-is_unit.result c.args.letters.now.items c.loop-cell.letters.items
     c.close-low-then-is_unit.new.letters.items (c.loop-cell.units.spent - c.args.units.now.spent) c.in-Some.cell c.loop-cell.stack c.pop.new.self (count_is case ∙ c.requires.one)
@@ -339,32 +242,19 @@ returns-then-is_unit-clause-searched c =
       one_unit = unit_edge case.n (numbers_of case).count (region_of c.in-Some.cell) c.edge_to_halve.result c.is_unit.result
           (count_is case) c.edge_to_halve.ensures c.is_unit.ensures.value c.if-is_unit.true;
     })
-    closes (rw c.low_plain-here.ensures.value at lesser) (far_below here) (rw delta at c.loop-cell.invariant.so_far))
+    closes (lesser_of here _ mid) (far_below here) (rw delta at c.loop-cell.invariant.so_far))
 
 pub returns-then-is_spent-2-clause-searched : goal.returns-then-is_spent-2-clause-searched
 returns-then-is_spent-2-clause-searched c =
     let case = c.args.params.now.case in
     let here = (goal.at.returns-then-is_spent-2-clause-searched c).Else-here-delta in
-    let delta = delta_read here in
-    let lesser : IsLesser (to_z w128 c.loop-cell.low-bits) c.low_plain-here.result c.smaller-then-is_spent-2.result = (
-      omega (arith, ints, c.smaller-then-is_spent-2.ensures.first),
-      omega (arith, ints, c.smaller-then-is_spent-2.ensures.second, c.low_plain-here.ensures.small),
-      λ z h k. c.smaller-then-is_spent-2.ensures.either z (omega (arith, ints, h)) (omega (arith, ints, k, c.low_plain-here.ensures.small)),
-    ) in
-    let above = c.smaller-then-is_spent-2.ensures.either (neg_ℤ (pos (2 ^ 107))) (omega (arith, ints, c.loop-cell.invariant.low, c.requires.delta_high))
-    (omega (arith, ints, c.low_plain-here.ensures.small)) in
-    let size = abs_within c.smaller-then-is_spent-2.result (2 ^ 107) above (omega (arith, ints, c.smaller-then-is_spent-2.ensures.second, c.low_plain-here.ensures.small)) in
-    let closes = rw (back c.smaller-then-is_spent-2.result (omega (arith, size))) at c.close-low-then-is_spent-2.ensures.closes in
     rw (back c.close-low-then-is_spent-2.result (omega (arith, c.close-low-then-is_spent-2.ensures.small)))
-    (stops_spent (numbers_of case) c.args.plane.now.lam c.args.delta (to_z w128 c.loop-cell.low-bits) c.smaller-then-is_spent-2.result c.close-low-then-is_spent-2.result c.args.letters.now.items c.loop-cell.letters.items
-    c.close-low-then-is_spent-2.new.letters.items (c.loop-cell.units.spent - c.args.units.now.spent) (region_of c.in-Some.cell) c.loop-cell.stack c.pop.new.self (count_is case ∙ c.requires.one)
-    c.in-Some.ensures.some
+    (stopped here c.smaller-then-is_spent-2.result c.close-low-then-is_spent-2.result c.close-low-then-is_spent-2.new.letters.items (c.smaller-then-is_spent-2.ensures.first, c.smaller-then-is_spent-2.ensures.second, c.smaller-then-is_spent-2.ensures.either)
     (record {
       uncleared = cell_uncleared here;
       wants = inr (no_unit_edge case.n (numbers_of case).count (region_of c.in-Some.cell) c.edge_to_halve.result c.is_unit.result
-          (count_is case) c.edge_to_halve.ensures c.is_unit.ensures.value c.if-is_unit.false);
-    })
-    closes (rw c.low_plain-here.ensures.value at lesser) (far_below here) (rw delta at c.loop-cell.invariant.so_far))
+      (count_is case) c.edge_to_halve.ensures c.is_unit.ensures.value c.if-is_unit.false);
+    }) c.close-low-then-is_spent-2.ensures.closes)
 
 pub returns-clause-searched : goal.returns-clause-searched
 returns-clause-searched c =

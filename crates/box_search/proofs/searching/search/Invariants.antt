@@ -5,14 +5,12 @@ use Rattle.box_search.specs.Written.{WritesSome}
 use Rattle.box_search.proofs.Narrow.{Narrows}
 use Rattle.box_search.proofs.Root.{IsBegun}
 use Rattle.box_search.proofs.SoFar.{SoFar}
-use Rattle.box_search.proofs.Trees.{Leads}
 use Rattle.box_search.proofs.searching.search.Given as goal
 
 abbrev pub invariant-loop-cell : goal.invariant-loop-cell
 invariant-loop-cell l = record {
   narrow : Narrows l.stack;
   begun : IsBegun (numbers_of l.params.case) l.plane.lam l.fn.delta l.stack;
-  over : Leads (numbers_of l.params.case) l.plane.lam l.low l.stack (root_region (numbers_of l.params.case).count ∷ []);
   low : neg_ℤ l.fn.delta ≤ℤ l.low;
   high : l.low ≤ℤ pos (2 ^ 107);
   budget : l.units.budget ≡ l.fn.units.budget;

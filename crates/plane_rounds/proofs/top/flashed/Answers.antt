@@ -10,7 +10,7 @@ use Rattle.case_types.specs.Answers.{delta_of}
 use Rattle.case_types.specs.Cells.{root_region, plain_low}
 use Rattle.case_types.specs.Numbers.{numbers_of}
 use Rattle.box_search.proofs.Pure.{count_is}
-use Rattle.box_search.proofs.Trees.{leaf_over}
+use Rattle.case_types.proofs.Walks.{leaf_over}
 use Rattle.case_types.specs.Bases.{plane_over}
 use Rattle.case_types.specs.declared.pivots.Pivot.{Pivot}
 use Rattle.case_types.specs.Lawful.{EndsAs}
@@ -46,7 +46,8 @@ returns-in-Ends-clause-answer c =
       divides = answer.divides;
       upper = answer.upper;
       gap = answer.gap;
-      low = rw (answer.low, ap (λ (p : Plane). p.lam) answer.plane) (lowest_of (numbers_of case) c.plane_of-plane.result.lam c.round-found.result c.in-Ends.ending c.in-Ends.ensures c.round-found.ensures.lowest);
+      low = rw (answer.low, ap (λ (p : Plane). p.lam) answer.plane) (lowest_of (numbers_of case) c.plane_of-plane.result.lam c.round-found.result c.in-Ends.ending
+          c.round-found.ensures.searched.searched.tree c.in-Ends.ensures c.round-found.ensures.searched.searched.low);
       within = omega (arith, answer.units, units.within, whole);
       cause =
           rw answer.outcome
