@@ -1,5 +1,5 @@
 -- Why a cell has its letter, and why a search ends at it.
-use Rattle.std.proofs.Common.{◌≡◌, ℕ, ◌+◌, ◌/◌, ◌^◌, ◌<◌, ◌≤◌, ◌||◌, nat_lt, ◌==◌, Bool, true, false, if◌then◌else◌, List, [], ◌∷◌, Option, Some, None, ℤ, ◌-ℤ◌, neg_ℤ, ◌<ℤ◌, unsigned_abs, IsTrue, refl, sym, ap, ◌∙◌, arith}
+use Rattle.std.proofs.Common.{◌≡◌, ℕ, ◌+◌, ◌/◌, ◌^◌, ◌≤◌, ◌||◌, nat_lt, ◌==◌, Bool, true, false, if◌then◌else◌, List, Some, None, ℤ, neg_ℤ, ◌<ℤ◌, unsigned_abs, IsTrue, sym, ap, arith}
 use Rattle.std.proofs.lemmas.Int.{ints}
 use Rattle.case_types.specs.declared.rounds.Column.{Column}
 use Rattle.case_types.specs.Bases.{pure_composition}

@@ -1,7 +1,7 @@
 -- What the answer of a search says.
 use Rattle.std.specs.Prelude.{ℕ, ◌≡◌, ◌^◌, List, [], ◌∷◌, ℤ, pos, neg_ℤ, ◌≤ℤ◌, ◌<ℤ◌}
 use Rattle.case_types.specs.Answers.{IsGrain}
-use Rattle.case_types.specs.Cells.{Region, region_of, root_region, plain_low}
+use Rattle.case_types.specs.Cells.{region_of, root_region, plain_low}
 use Rattle.case_types.specs.Columns.{IsColumn, Refutes, point_of}
 use Rattle.case_types.specs.Numbers.{Numbers}
 use Rattle.case_types.specs.Searches.{SearchEnd, EndsClear, EndsRefuted, EndsSpent, EndsGrain}

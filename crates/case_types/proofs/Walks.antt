@@ -1,10 +1,10 @@
 -- What holds of each visit of a walk, and lows of leaves.
-use Rattle.std.proofs.Common.{◌≡◌, ℕ, ◌+◌, List, [], ◌∷◌, ◌++◌, Option, Some, None, ℤ, ◌≤ℤ◌, cond, refl, arith}
+use Rattle.std.proofs.Common.{◌≡◌, ℕ, ◌+◌, List, [], ◌∷◌, ◌++◌, Option, Some, None, ℤ, ◌≤ℤ◌, cond, arith}
 use Rattle.std.proofs.lemmas.Int.{ints}
 use Rattle.std.proofs.lemmas.List.Sums.{sum_by-append}
 use Rattle.case_types.specs.declared.rounds.Column.{Column}
 use Rattle.case_types.specs.Columns.{IsColumn, Refutes, point_of}
-use Rattle.case_types.specs.Cells.{Region, Mark, Misses, Plain, Sloped, Step, Ends, Halves, Visit, visits, Tree, Leaf, Node, lower_half, upper_half, HasLow, plain_low, slope_low, IsOver, IsTreeOver}
+use Rattle.case_types.specs.Cells.{Region, Misses, Plain, Sloped, Step, Ends, Halves, Visit, visits, Tree, Leaf, Node, lower_half, upper_half, HasLow, plain_low, slope_low, IsOver, IsTreeOver}
 use Rattle.case_types.specs.Numbers.{Numbers}
 use Rattle.case_types.specs.Searches.{EachVisit, IsStepOver, IsCutOff, OfHand, edges_in, is_edge_letter}
 

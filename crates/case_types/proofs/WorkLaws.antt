@@ -1,5 +1,5 @@
 -- Proofs of the laws of lawful answers.
-use Rattle.std.proofs.Common.{◌≡◌, ℕ, zero, suc, ◌+◌, ◌*◌, ◌^◌, ◌≤◌, ◌<◌, List, [], ◌∷◌, ◌++◌, length, take, Some, None, get_or, cond, ℤ, pos, neg_ℤ, ◌+ℤ◌, ◌-ℤ◌, ◌≤ℤ◌, ◌<ℤ◌, subst, refl, sym, ap, ◌∙◌, inl, inr, arith, length-append}
+use Rattle.std.proofs.Common.{◌≡◌, ℕ, zero, suc, ◌+◌, ◌*◌, ◌^◌, ◌<◌, List, [], ◌∷◌, ◌++◌, length, take, Some, None, get_or, cond, ℤ, pos, neg_ℤ, ◌+ℤ◌, ◌-ℤ◌, ◌≤ℤ◌, ◌<ℤ◌, subst, refl, sym, ap, ◌∙◌, inl, inr, arith, length-append}
 use Rattle.std.specs.Prelude.{slice_get}
 use Rattle.std.proofs.lemmas.Int.{ints}
 use Rattle.std.proofs.lemmas.List.{length-take, get_or-take}
@@ -14,14 +14,13 @@ use Rattle.case_types.specs.declared.pivots.Pivot.{Pivot}
 use Rattle.case_types.specs.declared.rounds.Column.{Column}
 use Rattle.case_types.specs.declared.rounds.Round.{Round}
 use Rattle.case_types.specs.Answers.{HasCause, delta_of}
-use Rattle.case_types.specs.Bases.{plane_over, reduced_cost, Enters, Pivots}
+use Rattle.case_types.specs.Bases.{plane_over, Pivots}
 use Rattle.case_types.specs.Bounds.{plane_at}
-use Rattle.case_types.specs.Cells.{Region}
-use Rattle.case_types.specs.Columns.{IsColumn, Refutes, point_of, point_up, plane_at_point}
+use Rattle.case_types.specs.Columns.{point_of, plane_at_point}
 use Rattle.case_types.specs.Lawful.{EndsAs, IsLawful, beginning}
-use Rattle.case_types.specs.Numbers.{Numbers, numbers_of}
-use Rattle.case_types.specs.Rounds.{Start, Own, own_of, round_end, quarter_of, IsSearchedRound, IsCutShort, IsRound, AreRefuted, after}
-use Rattle.case_types.specs.Searches.{SearchEnd, EndsClear, EndsRefuted, EndsSpent, EndsGrain, IsCutOff, OfHand, edges_in}
+use Rattle.case_types.specs.Numbers.{numbers_of}
+use Rattle.case_types.specs.Rounds.{Start, Own, own_of, round_end, quarter_of, IsSearchedRound, IsRound, AreRefuted, after}
+use Rattle.case_types.specs.Searches.{SearchEnd, EndsClear, EndsRefuted, EndsSpent, EndsGrain}
 use Rattle.case_types.proofs.Walks.{cuts_off}
 use Rattle.case_types.specs.WorkLaws.{is_refuted, refutations, SomeRound, UnitsAreWork, SpentHasWorked, ColumnsAreKept, IsLower, FallsAfter, Falls, PlanesFall, ClosedIsNear}
 
@@ -93,8 +92,7 @@ lower c tol w s t before r basis other kept end h at next n =
     let place : before.columns < length (take r.columns w.columns.items) = rw length-take (omega (arith, there, next)) in
     let same : get_or (take r.columns w.columns.items) before.columns kept ≡ kept =
     get_or-take r.columns w.columns.items before.columns kept (omega (arith, next)) ∙ get_or_from_slice_get w.columns.items before.columns kept kept at in
-    let over = rw same at (n.fair.no_deeper before.columns kept place) in
-    (
+    let over = rw same at (n.fair.no_deeper before.columns kept place) in (
       kept,
       at,
       under tol kept.up (plane_at_point (numbers_of c).count r.plane.lam (point_of kept)) (plane_at_point (numbers_of c).count before.plane.lam (point_of kept)) over (rw cut.0.up cut.1.below),
@@ -125,7 +123,7 @@ falls_after c tol w first before last s start basis other kept one end [] is pla
     )
 falls_after c tol w first before last s start basis other kept one end (r ∷ rs) is plane h at more n = (
   inl (lower c tol w s (after before basis) before r basis more.0 kept (EndsRefuted more.1) h at more.2.columns
-  (searched_there c tol (after before basis) (own_of w (after before basis) r) r more.0 more.1 more.2)),
+      (searched_there c tol (after before basis) (own_of w (after before basis) r) r more.0 more.1 more.2)),
   falls_after c tol w first r last (after before basis) start more.0 other more.1 one end rs is plane more.2 more.3 more.4 n,
 )
 

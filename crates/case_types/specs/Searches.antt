@@ -2,7 +2,7 @@
 use Rattle.std.specs.Prelude.{ℕ, ◌≡◌, ◌⊎◌, ◌||◌, ◌&&◌, ◌==◌, nat_le, nat_lt, Bool, cond, List, [], ◌∷◌, ◌++◌, map, count_by, IsTrue, IsFalse, IsSomeAnd, Some, ℤ, neg_ℤ, ◌-ℤ◌, ◌≤ℤ◌, ◌<ℤ◌}
 use Rattle.case_types.specs.declared.cells.Cell.{Cell}
 use Rattle.case_types.specs.declared.rounds.Column.{Column}
-use Rattle.case_types.specs.Cells.{Region, region_of, root_region, misses, edge_to_halve, is_unit, Mark, Misses, Plain, Sloped, Tree, Step, Ends, Halves, Visit, visits, letters_of, HasVisit, plain_low, low_by, IsLeafOver, GridPoint, midpoint}
+use Rattle.case_types.specs.Cells.{Region, region_of, root_region, misses, edge_to_halve, is_unit, Misses, Plain, Sloped, Tree, Step, Ends, Halves, Visit, visits, letters_of, HasVisit, plain_low, low_by, IsLeafOver, GridPoint, midpoint}
 use Rattle.case_types.specs.Columns.{IsColumn, Refutes, point_of, point_up, plane_at_point}
 use Rattle.case_types.specs.Numbers.{Numbers}
 

@@ -1,5 +1,5 @@
 -- Laws of lawful answers: what no list of work can be.
-use Rattle.std.specs.Prelude.{ℕ, ◌≡◌, ◌+◌, ◌*◌, ◌^◌, ◌≤◌, ◌⊎◌, Bool, true, false, List, [], ◌∷◌, length, count_by, Some, slice_get, ℤ, pos, ◌≤ℤ◌, ◌<ℤ◌}
+use Rattle.std.specs.Prelude.{ℕ, ◌≡◌, ◌+◌, ◌*◌, ◌^◌, ◌≤◌, ◌⊎◌, Bool, true, false, List, [], ◌∷◌, length, count_by, Some, slice_get, pos, ◌≤ℤ◌, ◌<ℤ◌}
 use Rattle.case_types.specs.declared.answers.Answer.{Answer}
 use Rattle.case_types.specs.declared.answers.Outcome.TheVariants.{Closed, Spent as SpentOut}
 use Rattle.case_types.specs.declared.answers.Work.{Work}

@@ -21,7 +21,10 @@ pub use adding::adds_up;
 pub use answers::{Answer, FlashFault, Outcome, Work};
 pub use cases::{Case, Name, PAIRS, ParamFault, Row, SLOTS};
 pub use cells::{BoxX, Cell};
-pub use laws::{closed_is_near, columns_are_kept, planes_fall, some_round, spent_has_worked, trees_cover, units_are_work, weak_duality};
+pub use laws::{
+    closed_is_near, columns_are_kept, planes_fall, some_round, spent_has_worked, trees_cover,
+    units_are_work, weak_duality,
+};
 pub use lists::{Columns, Letters, Memory, Pivots, Reserved, Rounds};
 pub use phases::{Phase, Split};
 pub use pivots::Pivot;

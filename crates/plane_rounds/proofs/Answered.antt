@@ -18,8 +18,8 @@ use Rattle.case_types.specs.Cells.{root_region, plain_low}
 use Rattle.case_types.specs.Columns.{IsColumn, point_up}
 use Rattle.case_types.specs.Lawful.{EndsAs, IsFirstColumn, IsLawful, beginning}
 use Rattle.case_types.specs.Numbers.{numbers_of}
-use Rattle.case_types.specs.Rounds.{Start, own_of, IsRound}
-use Rattle.case_types.specs.Searches.{EndsSpent, edges_in}
+use Rattle.case_types.specs.Rounds.{own_of}
+use Rattle.case_types.specs.Searches.{EndsSpent}
 use Rattle.case_types.proofs.Walks.{edges-append}
 use Rattle.box_search.specs.declared.found.Found.{Found}
 use Rattle.box_search.specs.declared.found.Found.TheVariants as Founds
@@ -28,7 +28,7 @@ use Rattle.plane_rounds.specs.declared.answers.Ending.{Ending}
 use Rattle.plane_rounds.specs.declared.answers.Next.TheVariants.{Ends}
 use Rattle.plane_rounds.specs.Following.{Follows}
 use Rattle.plane_rounds.specs.Noted.{columns_of, end_named, last_enters, round_noted}
-use Rattle.plane_rounds.proofs.Growing.{GoesOn, range-seam, get-append, stays}
+use Rattle.plane_rounds.proofs.Growing.{GoesOn, range-seam, stays}
 use Rattle.plane_rounds.proofs.Rows.{Flashing, Pending, Went, start_of, before_too, round_went}
 
 -- the first column is at half the densest packing

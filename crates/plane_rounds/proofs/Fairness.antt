@@ -1,5 +1,5 @@
 -- The tangent plane of a basis lies nowhere far above the columns, nor far below the basis.
-use Rattle.std.proofs.Common.{◌≡◌, ℕ, ◌+◌, ◌*◌, ◌^◌, ◌≤◌, List, All, ℤ, pos, neg_ℤ, ◌+ℤ◌, ◌-ℤ◌, ◌*ℤ◌, ◌≤ℤ◌, ◌<ℤ◌, slice_index, slice_index_or, subst, ap, ◌∙◌, arith, lit<}
+use Rattle.std.proofs.Common.{◌≡◌, ℕ, ◌+◌, ◌^◌, ◌≤◌, List, All, ℤ, pos, neg_ℤ, ◌+ℤ◌, ◌-ℤ◌, ◌*ℤ◌, ◌≤ℤ◌, ◌<ℤ◌, slice_index, slice_index_or, subst, ap, ◌∙◌, arith, lit<}
 use Rattle.std.proofs.lemmas.Int.{ints}
 use Rattle.log_laws.specs.Sums.{sum_below}
 use Rattle.log_laws.specs.Whole.{floor_over}

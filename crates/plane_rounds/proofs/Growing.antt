@@ -1,8 +1,8 @@
 -- The rounds of a flash stay as the lists of work go on.
-use Rattle.std.proofs.Common.{◌≡◌, ℕ, ◌+◌, ◌-◌, ◌≤◌, ◌<◌, List, [], ◌∷◌, ◌++◌, length, drop, Some, refl, sym, ap, ◌∙◌, arith, length-append, length-drop}
+use Rattle.std.proofs.Common.{◌≡◌, ℕ, ◌+◌, ◌-◌, ◌≤◌, ◌<◌, List, [], ◌∷◌, ◌++◌, length, drop, Some, refl, ap, ◌∙◌, arith, length-append, length-drop}
 use Rattle.std.specs.Prelude.{slice_get, slice_range}
-use Rattle.std.proofs.lemmas.List.{append-nil, take-append-le, drop-append-le, length-take}
-use Rattle.std.proofs.Math.Seq.{take-append_seam, drop-append_seam, take-length, get_or-append_seam}
+use Rattle.std.proofs.lemmas.List.{take-append-le, drop-append-le, length-take}
+use Rattle.std.proofs.Math.Seq.{drop-append_seam, take-length, get_or-append_seam}
 use Rattle.std.proofs.Math.ListN.{get_or-append}
 use Rattle.std.proofs.lemmas.Option.{get_or_from_slice_get, slice_get_within, slice_get-get_or}
 use Rattle.case_types.specs.declared.answers.Work.{Work}

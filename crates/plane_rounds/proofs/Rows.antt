@@ -1,5 +1,5 @@
 -- A flash so far: rounds whose planes are cut off, and the pivots after the last of them.
-use Rattle.std.proofs.Common.{◌≡◌, ℕ, ◌+◌, ◌-◌, ◌*◌, ◌^◌, ◌≤◌, ◌<◌, List, [], ◌∷◌, ◌++◌, length, take, All, Some, ℤ, pos, ◌+ℤ◌, ◌-ℤ◌, ◌*ℤ◌, ◌≤ℤ◌, ◌<ℤ◌, slice_index_or, subst, refl, sym, ap, ◌∙◌, inl, inr, arith, length-append}
+use Rattle.std.proofs.Common.{◌≡◌, ℕ, ◌+◌, ◌-◌, ◌^◌, ◌≤◌, List, [], ◌∷◌, ◌++◌, length, All, Some, ℤ, pos, ◌+ℤ◌, ◌*ℤ◌, ◌≤ℤ◌, ◌<ℤ◌, slice_index_or, subst, refl, sym, ap, ◌∙◌, inl, arith, length-append}
 use Rattle.std.specs.Prelude.{slice_get, slice_range}
 use Rattle.std.proofs.lemmas.Int.{ints}
 use Rattle.std.proofs.lemmas.List.{append-nil}
@@ -7,19 +7,16 @@ use Rattle.std.proofs.lemmas.List.Elements.{All-push, All-weaker, All-nil}
 use Rattle.std.proofs.Math.Seq.{take-append_seam}
 use Rattle.case_types.specs.declared.answers.Work.{Work}
 use Rattle.case_types.specs.declared.cases.Case.{Case}
-use Rattle.case_types.specs.declared.pivots.Pivot.{Pivot}
 use Rattle.case_types.specs.declared.planes.Plane.{Plane}
 use Rattle.case_types.specs.declared.rounds.Column.{Column}
 use Rattle.case_types.specs.declared.rounds.Round.{Round}
-use Rattle.case_types.specs.declared.rounds.RoundEnd.{RoundEnd}
 use Rattle.case_types.specs.Answers.{delta_of}
 use Rattle.case_types.specs.Bases.{plane_over, reduced_cost, AreDearEnough, Enters, Pivots}
-use Rattle.case_types.specs.Cells.{Region}
 use Rattle.case_types.specs.Columns.{IsColumn, Refutes, point_of, plane_at_point}
 use Rattle.case_types.specs.Lawful.{beginning}
-use Rattle.case_types.specs.Numbers.{Numbers, numbers_of}
-use Rattle.case_types.specs.Rounds.{Start, Own, own_of, IsRound, AreRefuted, after}
-use Rattle.case_types.specs.Searches.{EndsRefuted, IsCutOff, OfHand, HasEndCause, edges_in}
+use Rattle.case_types.specs.Numbers.{numbers_of}
+use Rattle.case_types.specs.Rounds.{Start, own_of, IsRound, AreRefuted, after}
+use Rattle.case_types.specs.Searches.{IsCutOff, OfHand, edges_in}
 use Rattle.case_types.proofs.Walks.{cuts_off, edges-append}
 use Rattle.box_search.specs.declared.found.Found.{Found}
 use Rattle.box_search.specs.declared.found.Found.TheVariants.{Refuted}

@@ -253,7 +253,7 @@ returns-then-is_spent-2-clause-searched c =
     (record {
       uncleared = cell_uncleared here;
       wants = inr (no_unit_edge case.n (numbers_of case).count (region_of c.in-Some.cell) c.edge_to_halve.result c.is_unit.result
-      (count_is case) c.edge_to_halve.ensures c.is_unit.ensures.value c.if-is_unit.false);
+          (count_is case) c.edge_to_halve.ensures c.is_unit.ensures.value c.if-is_unit.false);
     }) c.close-low-then-is_spent-2.ensures.closes)
 
 pub returns-clause-searched : goal.returns-clause-searched

@@ -1,5 +1,4 @@
-use Rattle.std.proofs.Common.{◌≡◌, ◌+◌, ◌-◌, ◌*◌, ◌≤◌, ◌^◌, pos, neg_ℤ, ◌≤ℤ◌, [], ◌∷◌, length}
-use Rattle.case_types.specs.Cells.{root_region}
+use Rattle.std.proofs.Common.{◌≡◌, ◌+◌, ◌-◌, ◌*◌, ◌≤◌, ◌^◌, pos, neg_ℤ, ◌≤ℤ◌, length}
 use Rattle.case_types.specs.Numbers.{numbers_of}
 use Rattle.box_search.specs.Written.{WritesSome}
 use Rattle.box_search.proofs.Narrow.{Narrows}

@@ -1,22 +1,19 @@
 -- The cell in hand of a search, where it isn't cleared.
-use Rattle.std.proofs.Common.{◌≡◌, ◌≤◌, ◌+◌, ◌-◌, ◌*◌, ◌^◌, [], ◌∷◌, length, ℕ, List, ℤ, pos, neg_ℤ, unsigned_abs, ◌<ℤ◌, to_z, of_z, ◌≤ℤ◌, ap, sym, refl, ◌∙◌, inl, inr, arith}
+use Rattle.std.proofs.Common.{◌≡◌, ◌≤◌, ◌+◌, ◌-◌, ◌*◌, ◌^◌, length, ℕ, List, ℤ, neg_ℤ, unsigned_abs, ◌<ℤ◌, to_z, of_z, ap, ◌∙◌, arith}
 use Rattle.std.specs.Int.{w128}
 use Rattle.std.proofs.lemmas.Int.{ints}
-use Rattle.std.proofs.lemmas.List.{append-nil}
 use Rattle.log_laws.proofs.Exports.{back}
 use Rattle.case_types.specs.Cells.{region_of, root_region, plain_low}
-use Rattle.case_types.specs.Columns.{point_of}
 use Rattle.case_types.specs.Numbers.{numbers_of}
 use Rattle.case_types.specs.Searches.{IsUncleared, WantsUnit}
 use Rattle.case_types.specs.Spared.{Spared}
-use Rattle.box_search.specs.declared.found.Found.TheVariants.{AllClear, Refuted, Spent}
+use Rattle.box_search.specs.declared.found.Found.TheVariants.{Spent}
 use Rattle.box_search.specs.Written.{Writes, WritesSome, Closes, Searches}
-use Rattle.box_search.proofs.Letters.{no_more, one_more, then_more, writes}
-use Rattle.box_search.proofs.Narrow.{narrow_root, narrow_rest, narrow_halves}
-use Rattle.box_search.proofs.Pure.{count_is, packing_named, not_one}
-use Rattle.box_search.proofs.Root.{begun_rest, root_open}
-use Rattle.box_search.proofs.Causes.{middle_refutes, uncleared, cut_off, unit_edge, no_unit_edge, packing_halved}
-use Rattle.box_search.proofs.SoFar.{IsLesser, lesser_small, highest, none_misses, begins, stands, halves, ended, stops_spent, stops_grain, low_clear}
+use Rattle.box_search.proofs.Letters.{then_more, writes}
+use Rattle.box_search.proofs.Pure.{count_is}
+use Rattle.box_search.proofs.Root.{root_open}
+use Rattle.box_search.proofs.Causes.{uncleared}
+use Rattle.box_search.proofs.SoFar.{IsLesser, lesser_small, highest, stops_spent}
 use Rattle.box_search.proofs.searching.search.Goals.{Else-here-delta}
 
 pub here_low : (c : Else-here-delta) → c.low_plain-here.result <ℤ neg_ℤ c.args.delta
