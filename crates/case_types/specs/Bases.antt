@@ -17,6 +17,7 @@ plane_over basis = (basis.cost *ℤ pos (2 ^ 10)) ∷ pos 0 ∷ pos 0 ∷ pos 0 
 abbrev pub phase_over : Column → Phase
 phase_over basis = record { parts = 1 ∷ 0 ∷ 0 ∷ 0 ∷ []; packing = basis.packing }
 
+-- the split is of one part of the component, which is all of it
 pub record IsSplitOver (basis : Column) (s : Split) : Type 0 where
   pub sum : s.sum ≡ 1
   pub phases : s.phases.items ≡ phase_over basis ∷ []

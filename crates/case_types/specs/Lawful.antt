@@ -29,6 +29,7 @@ pub record IsFirstColumn (c : Case) (col : Column) : Type 0 where
 abbrev pub beginning : Column → Start
 beginning first = record { columns = 1; pivots = 0; letters = 0; basis = first }
 
+-- every step of the list of work has its cause, and the answer is that of the last round
 pub record IsLawful (c : Case) (tol budget : ℕ) (a : Answer) : Type 0 where
   pub answer : IsAnswer c tol budget a
   -- the columns

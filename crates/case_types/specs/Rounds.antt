@@ -28,6 +28,7 @@ pub record Own : Type 0 where
   pub pivots : List Pivot
   pub letters : List ℕ
 
+-- they are read from the finished lists by the marks of the round
 abbrev pub own_of : Work → Start → Round → Own
 own_of w s r = record {
   columns = take r.columns w.columns.items;

@@ -38,6 +38,7 @@ abbrev pub EachVisit : (Visit → Type 0) → List Visit → Type 0
 EachVisit P [] = Unit {0}
 EachVisit P (v ∷ vs) = P v × EachVisit P vs
 
+-- so has the letter of every visit
 abbrev pub HaveCauses : Numbers → List ℤ → ℤ → List Visit → Type 0
 HaveCauses p lam delta vs = EachVisit (λ v. HasStepCause p lam delta v.region v.step) vs
 
@@ -49,15 +50,17 @@ left_visit n r = record { region = r; step = Ends (cond (misses n r) Misses Plai
 abbrev pub is_edge_letter : ℕ → Bool
 is_edge_letter letter = (nat_le 49 letter && nat_lt letter 52) || letter == 121
 
+-- how many of them there are
 abbrev pub edges_in : List ℕ → ℕ
 edges_in letters = count_by is_edge_letter letters
 
 -- ---- the least low of a walk
--- a leaf misses or its low is at least this, and a leaf has this low
+-- a leaf misses, or its low is at least this
 abbrev pub IsStepOver : Numbers → List ℤ → ℤ → Region → Step → Type 0
 IsStepOver p lam low r (Ends mark) = IsLeafOver p lam low mark r
 IsStepOver p lam low r (Halves edge) = Unit {0}
 
+-- it is a leaf of this low
 abbrev pub IsStepAt : Numbers → List ℤ → ℤ → Region → Step → Type 0
 IsStepAt p lam low r (Ends mark) = low_by p lam r mark ≡ Some low
 IsStepAt p lam low r (Halves edge) = ⊥
