@@ -20,6 +20,16 @@ pub struct Name {
     pub ghost spelled: { IsTrue (is_name len bytes) },
 }
 
+impl Default for Name {
+    /// No byte yet.
+    fn default() -> Name {
+        Name {
+            len: 0,
+            bytes: [0; 16],
+        }
+    }
+}
+
 /// A component of the table.
 #[derive(Clone, Copy, Debug, PartialEq, Eq)]
 pub struct Row {

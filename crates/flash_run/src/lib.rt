@@ -5,16 +5,14 @@
 #![tactic(auto)]
 
 mod ends;
-mod names;
 mod reading;
 mod reports;
 #[cfg(test)]
 mod tests;
 mod texts;
 mod top;
-mod words;
 
+pub use case_words::Word;
 pub use ends::{End, RunEnd};
 pub use reports::report;
 pub use top::run;
-pub use words::Word;

@@ -4,8 +4,7 @@ ghost use Rattle.std.specs.Prelude.{◌≡◌, ◌≤◌, ◌*◌, IfSome, IsTru
 ghost use Rattle.case_types.specs.Ranges.{is_acentric_factor};
 ghost use Rattle.flash_run.specs.InRange.{IsInRange};
 
-use crate::names::read_name;
-use crate::words::Word;
+use case_words::{Word, read_name};
 use case_types::{Case, Name, Row, SLOTS};
 use std::str;
 
@@ -34,7 +33,7 @@ pub fn read_words(words: &Vec<Word>) -> Option<Asked> {
     Some(Asked {
         t: number(value(&words[1], "T=")?, 50, 1500)?,
         p: number(value(&words[2], "P=")?, 1000, 100_000_000)?,
-        name: read_name(value(&words[4], "names=")?.as_bytes())?,
+        name: read_name(value(&words[4], "names=")?.as_bytes()).ok()?,
         tol: number(value(&words[5], "tol=")?, 128, 1 << 20)?,
         budget: number(value(&words[6], "budget=")?, 1, 10_000_000)?,
     })
@@ -83,7 +82,7 @@ fn read_row(table: &[u8]) -> Option<Row>
     let (tc, rest) = rest.split_once(',')?;
     let (pc, w) = rest.split_once(',')?;
     Some(Row {
-        name: read_name(name.as_bytes())?,
+        name: read_name(name.as_bytes()).ok()?,
         tc: number(tc, 5, 1500)? * 1000,
         pc: number(pc, 100_000, 50_000_000)?,
         w: factor(w)?,

@@ -3,11 +3,11 @@
 ghost use Rattle.std.specs.Prelude.{◌<◌};
 
 use super::*;
-use crate::names::read_name;
 use crate::reading::{read_case, read_words};
 use crate::reports::put_phase;
 use crate::texts::put_thousandths;
 use case_types::Phase;
+use case_words::read_name;
 use io_edge::{MemSink, MemSource};
 use std::alloc::{AllocError, Global};
 use std::test::Fail;

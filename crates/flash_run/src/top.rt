@@ -9,7 +9,7 @@ ghost use Rattle.flash_run.specs.Ends.{status_of, IsFlashed, CountsRead, Takes};
 use crate::ends::{End, RunEnd};
 use crate::reading::{read_case, read_words};
 use crate::reports::report;
-use crate::words::Word;
+use case_words::Word;
 use io_edge::{ReadStop, Sink, Source, read_all, write_all};
 use plane_rounds::flash_tp;
 use pr_params::params;

@@ -1,7 +1,10 @@
 -- The bytes of a name, one more at a time.
 use Rattle.std.proofs.Common.{◌≡◌, ℕ, ◌+◌, ◌<◌, ◌≤◌, List, [], ◌∷◌, ◌++◌, ap, sym, ◌∙◌, take, Bool, true, false, ◌&&◌, ◌||◌, refl, get_or, set, length, arith, below_more, nat_lt, nat_le, inl, inr, zero, suc}
-use Rattle.std.specs.Prelude.{◌==◌, IsTrue, slice_index}
-use Rattle.std.proofs.lemmas.List.{get_or-set_same, get_or-set_other, take_more, take_more_set}
+use Rattle.std.specs.Prelude.{◌==◌, IsTrue, slice_index, Ok, Err}
+use Rattle.std.specs.List.{list_all}
+use Rattle.dec_text.specs.declared.faults.DecFault.TheVariants.{Empty, Digit}
+use Rattle.case_words.specs.Names.{name_of}
+use Rattle.std.proofs.lemmas.List.{get_or-set_same, get_or-set_other, take_more, take_more_set, take_all}
 use Rattle.std.proofs.lemmas.Bool.{cases_lt, le-leb, lt-ltb}
 use Rattle.case_types.specs.Ranges.{is_name, is_name_byte}
 use Rattle.log_laws.specs.Sums.{all_below}
@@ -52,3 +55,19 @@ is_name-each len bytes spelled rest =
       | inl h ↦ first_pair (nat_lt k len) (is_name_byte (slice_index bytes k)) (nat_le len k && slice_index bytes k == 0) (lt-ltb k len h) (spelled k h)
       | inr h ↦ last_pair (nat_lt k len && is_name_byte (slice_index bytes k)) (nat_le len k) (slice_index bytes k == 0) (le-leb len k h) (rw (rest k h) refl)
     ])
+
+-- ---- a name, test by test
+pub name-empty : (text : List ℕ) → (length text == 0) ≡ true → name_of text ≡ Err Empty
+unfolding name_of
+name-empty text a = rw a refl
+
+pub name-digit : (text : List ℕ) → (length text == 0) ≡ false → (nat_le (length text) 16 && list_all is_name_byte text) ≡ false → name_of text ≡ Err Digit
+unfolding name_of
+name-digit text a b = rw (a, b) refl
+
+pub name-good : (text bytes : List ℕ) (i : ℕ) → (length text == 0) ≡ false → (nat_le (length text) 16 && list_all is_name_byte text) ≡ true
+    → i ≡ length text → take i bytes ≡ take i text → name_of text ≡ Ok (take (length text) bytes)
+unfolding name_of
+name-good text bytes i a b end copied =
+    let whole : take (length text) bytes ≡ text = sym (ap (λ (n : ℕ). take n bytes) end) ∙ copied ∙ take_all i text (omega arith) in
+    rw (a, b) (ap Ok (sym whole))

@@ -1,7 +1,7 @@
 use Rattle.std.proofs.Common.{◌≡◌, ℕ, ◌<◌, ◌≤◌, get_or, length, take}
 use Rattle.std.specs.Prelude.{IsTrue}
 use Rattle.case_types.specs.Ranges.{is_name_byte}
-use Rattle.flash_run.proofs.names.read_name.Given as goal
+use Rattle.case_words.proofs.names.read_name.Given as goal
 
 abbrev pub invariant-loop-i : goal.invariant-loop-i
 invariant-loop-i l = record {

@@ -1,0 +1,109 @@
+-- What is kept of all that words have given, word by word.
+use Rattle.std.proofs.Common.{◌≡◌, ℕ, List, length, Bool, true, false, refl, sym, ap, subst, ◌∙◌, ◌^◌}
+use Rattle.std.specs.Prelude.{Option, Some, None, Result, Ok, Err, IfSome, cond, nat_lt}
+use Rattle.std.specs.List.{sum, position_or_len, before_first, after_first}
+use Rattle.std.proofs.lemmas.Bool.{eqb-true}
+use Rattle.case_words.specs.declared.keys.Key.{Key}
+use Rattle.case_words.specs.declared.keys.Key.TheVariants.{T, P, Z, Names, Tol, Budget}
+use Rattle.case_words.specs.declared.faults.WordFault.TheVariants.{Unknown, Twice, Range, Count}
+use Rattle.dec_text.specs.Decimals.{decimal_of}
+use Rattle.case_words.specs.Answers.{◌>>=◌, when}
+use Rattle.case_words.specs.Keys.{key_of}
+use Rattle.case_words.specs.Names.{name_of, are_different}
+use Rattle.case_words.specs.Counts.{is_as_many, count_of}
+use Rattle.case_words.specs.Items.{valued, is_within, number_of, parts_of, names_of, up_to_four}
+use Rattle.case_words.specs.Jobs.{Gathered, nothing, stands, is_equals, with_value, with_key, with_word}
+use Rattle.case_words.specs.Keeping.{IsKept}
+
+-- ---- results that are good
+and_then_good : {A B F : Type 0} (r : Result A F) (f : A → Result B F) (y : B) → (r >>= f) ≡ Ok y → (x : A) × (r ≡ Ok x) × (f x ≡ Ok y)
+and_then_good (Ok x) f y e = (x, refl, e)
+and_then_good (Err fault) f y e = absurd (cc)
+
+when_good : {A F : Type 0} (b : Bool) (a x : A) (fault : F) → when b a fault ≡ Ok x → (b ≡ true) × (a ≡ x)
+when_good true a x fault e = (refl, cc)
+when_good false a x fault e = absurd (cc)
+
+if_good : {A F : Type 0} (b : Bool) (r : Result A F) (x : A) (fault : F) → cond b r (Err fault) ≡ Ok x → r ≡ Ok x
+if_good true r x fault e = e
+if_good false r x fault e = absurd (cc)
+
+unless_good : {A F : Type 0} (b : Bool) (r : Result A F) (x : A) (fault : F) → cond b (Err fault) r ≡ Ok x → r ≡ Ok x
+unless_good true r x fault e = absurd (cc)
+unless_good false r x fault e = e
+
+same_good : {A F : Type 0} (x y : A) → ◌≡◌ {A = Result A F} (Ok x) (Ok y) → x ≡ y
+same_good x y e = cc
+
+-- ---- good numbers and lists
+number-within : (place places low high : ℕ) (text : List ℕ) (n : ℕ) → number_of place places low high text ≡ Ok n → is_within low high n ≡ true
+unfolding number_of
+number-within place places low high text n e =
+    let step = and_then_good (valued place (decimal_of places (10 ^ 15) text)) (λ (m : ℕ). when (is_within low high m) m (Range place)) n e in
+    let good = when_good (is_within low high step.0) step.0 n (Range place) step.2 in
+    ap (is_within low high) (sym good.1) ∙ good.0
+
+parts-within : (place : ℕ) (text parts : List ℕ) → parts_of place text ≡ Ok parts → is_within 1 1048576 (sum parts) ≡ true
+unfolding parts_of
+parts-within place text parts e =
+    let step = and_then_good (up_to_four place (number_of place 0 0 1048576) text) (λ (zs : List ℕ). when (is_within 1 1048576 (sum zs)) zs (Range place)) parts e in
+    let good = when_good (is_within 1 1048576 (sum step.0)) step.0 parts (Range place) step.2 in
+    ap (λ (zs : List ℕ). is_within 1 1048576 (sum zs)) (sym good.1) ∙ good.0
+
+names-differ : (place : ℕ) (text : List ℕ) (names : List (List ℕ)) → names_of place text ≡ Ok names → are_different names ≡ true
+unfolding names_of
+names-differ place text names e =
+    let step = and_then_good (up_to_four place (λ (item : List ℕ). valued place (name_of item)) text) (λ (ns : List (List ℕ)). when (are_different ns) ns (Twice place)) names e in
+    let good = when_good (are_different step.0) step.0 names (Twice place) step.2 in
+    ap are_different (sym good.1) ∙ good.0
+
+same_count : {A B : Type 0} (xs : List A) (others : Option (List B)) → is_as_many (length xs) (count_of others) ≡ true → IfSome others (λ ys. length xs ≡ length ys)
+same_count xs None e = tt
+same_count xs (Some ys) e = eqb-true (length xs) (length ys) e
+
+same_count_back : {A B : Type 0} (xs : List A) (others : Option (List B)) → is_as_many (length xs) (count_of others) ≡ true → IfSome others (λ ys. length ys ≡ length xs)
+same_count_back xs None e = tt
+same_count_back xs (Some ys) e = sym (eqb-true (length xs) (length ys) e)
+
+-- ---- the first word finds nothing to keep
+pub kept-nothing : IsKept nothing
+kept-nothing = record { t = tt; p = tt; total = tt; differ = tt; as_many = tt; tol = tt; budget = tt }
+
+-- ---- a word keeps it
+kept-value : (place : ℕ) (g more : Gathered) (key : Key) (value : List ℕ) → with_value place g key value ≡ Ok more → IsKept g → IsKept more
+unfolding with_value
+kept-value place g more T value e k =
+    let step = and_then_good (number_of place 3 50000 1500000 value) (λ (n : ℕ). Ok (record g { t = Some n })) more e in
+    let is : record g { t = Some step.0 } ≡ more = same_good (record g { t = Some step.0 }) more step.2 in
+    subst IsKept is (record { t = number-within place 3 50000 1500000 value step.0 step.1; p = k.p; total = k.total; differ = k.differ; as_many = k.as_many; tol = k.tol; budget = k.budget })
+kept-value place g more P value e k =
+    let step = and_then_good (number_of place 0 1000 100000000 value) (λ (n : ℕ). Ok (record g { p = Some n })) more e in
+    let is : record g { p = Some step.0 } ≡ more = same_good (record g { p = Some step.0 }) more step.2 in
+    subst IsKept is (record { t = k.t; p = number-within place 0 1000 100000000 value step.0 step.1; total = k.total; differ = k.differ; as_many = k.as_many; tol = k.tol; budget = k.budget })
+kept-value place g more Z value e k =
+    let step = and_then_good (parts_of place value) (λ (zs : List ℕ). when (is_as_many (length zs) (count_of g.names)) (record g { z = Some zs }) (Count place)) more e in
+    let good = when_good (is_as_many (length step.0) (count_of g.names)) (record g { z = Some step.0 }) more (Count place) step.2 in
+    subst IsKept good.1 (record { t = k.t; p = k.p; total = parts-within place value step.0 step.1; differ = k.differ; as_many = same_count step.0 g.names good.0; tol = k.tol; budget = k.budget })
+kept-value place g more Names value e k =
+    let step = and_then_good (names_of place value) (λ (ns : List (List ℕ)). when (is_as_many (length ns) (count_of g.z)) (record g { names = Some ns }) (Count place)) more e in
+    let good = when_good (is_as_many (length step.0) (count_of g.z)) (record g { names = Some step.0 }) more (Count place) step.2 in
+    subst IsKept good.1 (record { t = k.t; p = k.p; total = k.total; differ = names-differ place value step.0 step.1; as_many = same_count_back step.0 g.z good.0; tol = k.tol; budget = k.budget })
+kept-value place g more Tol value e k =
+    let step = and_then_good (number_of place 0 128 1048576 value) (λ (n : ℕ). Ok (record g { tol = Some n })) more e in
+    let is : record g { tol = Some step.0 } ≡ more = same_good (record g { tol = Some step.0 }) more step.2 in
+    subst IsKept is (record { t = k.t; p = k.p; total = k.total; differ = k.differ; as_many = k.as_many; tol = number-within place 0 128 1048576 value step.0 step.1; budget = k.budget })
+kept-value place g more Budget value e k =
+    let step = and_then_good (number_of place 0 1 10000000 value) (λ (n : ℕ). Ok (record g { budget = Some n })) more e in
+    let is : record g { budget = Some step.0 } ≡ more = same_good (record g { budget = Some step.0 }) more step.2 in
+    subst IsKept is (record { t = k.t; p = k.p; total = k.total; differ = k.differ; as_many = k.as_many; tol = k.tol; budget = number-within place 0 1 10000000 value step.0 step.1 })
+
+kept-key : (place : ℕ) (g more : Gathered) (key : Option Key) (value : List ℕ) → with_key place g key value ≡ Ok more → IsKept g → IsKept more
+kept-key place g more None value e k = absurd (cc)
+kept-key place g more (Some key) value e k =
+    kept-value place g more key value (unless_good (stands g key) (with_value place g key value) more (Twice place) e) k
+
+pub kept-word : (place : ℕ) (g more : Gathered) (word : List ℕ) → with_word place g word ≡ Ok more → IsKept g → IsKept more
+unfolding with_word
+kept-word place g more word e k =
+    kept-key place g more (key_of (before_first is_equals word)) (after_first is_equals word)
+    (if_good (nat_lt (position_or_len is_equals word) (length word)) (with_key place g (key_of (before_first is_equals word)) (after_first is_equals word)) more (Unknown place) e) k

@@ -1,0 +1,146 @@
+-- One word more, test by test.
+use Rattle.std.proofs.Common.{◌≡◌, ℕ, ◌+◌, ◌<◌, ◌≤◌, List, [], ◌∷◌, length, get_or, drop, Bool, true, false, refl, ap, sym, ◌∙◌, arith}
+use Rattle.std.specs.Prelude.{Option, Some, None, Result, Ok, Err, nat_lt, codes}
+use Rattle.std.specs.List.{position_or_len, before_first, after_first}
+use Rattle.std.specs.Str.{bytes_eq}
+use Rattle.std.proofs.lemmas.List.{drop_more, drop_all}
+use Rattle.case_words.specs.declared.keys.Key.{Key}
+use Rattle.case_words.specs.declared.keys.Key.TheVariants.{T, P, Z, Names, Tol, Budget}
+use Rattle.case_words.specs.declared.faults.WordFault.{WordFault}
+use Rattle.case_words.specs.declared.faults.WordFault.TheVariants.{NoCommand, Unknown, Twice, Count}
+use Rattle.case_words.specs.Answers.{◌>>=◌, Answers}
+use Rattle.case_words.specs.Keys.{key_of}
+use Rattle.case_words.specs.Counts.{is_as_many, count_of}
+use Rattle.case_words.specs.Items.{number_of, parts_of, names_of}
+use Rattle.case_words.specs.Jobs.{Gathered, Asked, PlainJob, PlainTp, nothing, stands, is_equals, with_value, with_word, with_words, asked_of, job_of}
+
+-- ---- the value of a key
+pub value-t : (place : ℕ) (g : Gathered) (value : List ℕ) (r : Result ℕ WordFault) → number_of place 3 50000 1500000 value ≡ r
+    → with_value place g T value ≡ (r >>= (λ t. Ok (record g { t = Some t })))
+unfolding with_value
+value-t place g value r e = rw e refl
+
+pub value-p : (place : ℕ) (g : Gathered) (value : List ℕ) (r : Result ℕ WordFault) → number_of place 0 1000 100000000 value ≡ r
+    → with_value place g P value ≡ (r >>= (λ p. Ok (record g { p = Some p })))
+unfolding with_value
+value-p place g value r e = rw e refl
+
+pub value-tol : (place : ℕ) (g : Gathered) (value : List ℕ) (r : Result ℕ WordFault) → number_of place 0 128 1048576 value ≡ r
+    → with_value place g Tol value ≡ (r >>= (λ tol. Ok (record g { tol = Some tol })))
+unfolding with_value
+value-tol place g value r e = rw e refl
+
+pub value-budget : (place : ℕ) (g : Gathered) (value : List ℕ) (r : Result ℕ WordFault) → number_of place 0 1 10000000 value ≡ r
+    → with_value place g Budget value ≡ (r >>= (λ budget. Ok (record g { budget = Some budget })))
+unfolding with_value
+value-budget place g value r e = rw e refl
+
+pub value-z_fault : (place : ℕ) (g : Gathered) (value : List ℕ) (fault : WordFault) → parts_of place value ≡ Err fault → with_value place g Z value ≡ Err fault
+unfolding with_value
+value-z_fault place g value fault e = rw e refl
+
+pub value-z_count : (place : ℕ) (g : Gathered) (value parts : List ℕ) → parts_of place value ≡ Ok parts
+    → is_as_many (length parts) (count_of g.names) ≡ false → with_value place g Z value ≡ Err (Count place)
+unfolding with_value
+value-z_count place g value parts e other = rw (e, other) refl
+
+pub value-z : (place : ℕ) (g : Gathered) (value parts : List ℕ) → parts_of place value ≡ Ok parts
+    → is_as_many (length parts) (count_of g.names) ≡ true → with_value place g Z value ≡ Ok (record g { z = Some parts })
+unfolding with_value
+value-z place g value parts e same = rw (e, same) refl
+
+pub value-names_fault : (place : ℕ) (g : Gathered) (value : List ℕ) (fault : WordFault) → names_of place value ≡ Err fault
+    → with_value place g Names value ≡ Err fault
+unfolding with_value
+value-names_fault place g value fault e = rw e refl
+
+pub value-names_count : (place : ℕ) (g : Gathered) (value : List ℕ) (names : List (List ℕ)) → names_of place value ≡ Ok names
+    → is_as_many (length names) (count_of g.z) ≡ false → with_value place g Names value ≡ Err (Count place)
+unfolding with_value
+value-names_count place g value names e other = rw (e, other) refl
+
+pub value-names : (place : ℕ) (g : Gathered) (value : List ℕ) (names : List (List ℕ)) → names_of place value ≡ Ok names
+    → is_as_many (length names) (count_of g.z) ≡ true → with_value place g Names value ≡ Ok (record g { names = Some names })
+unfolding with_value
+value-names place g value names e same = rw (e, same) refl
+
+-- ---- the word
+pub word-without_equals : (place : ℕ) (g : Gathered) (word : List ℕ) → nat_lt (position_or_len is_equals word) (length word) ≡ false
+    → with_word place g word ≡ Err (Unknown place)
+unfolding with_word
+word-without_equals place g word e = rw e refl
+
+pub word-unknown : (place : ℕ) (g : Gathered) (word : List ℕ) → nat_lt (position_or_len is_equals word) (length word) ≡ true
+    → key_of (before_first is_equals word) ≡ None → with_word place g word ≡ Err (Unknown place)
+unfolding with_word
+word-unknown place g word e none = rw (e, none) refl
+
+pub word-twice : (place : ℕ) (g : Gathered) (word : List ℕ) (key : Key) → nat_lt (position_or_len is_equals word) (length word) ≡ true
+    → key_of (before_first is_equals word) ≡ Some key → stands g key ≡ true → with_word place g word ≡ Err (Twice place)
+unfolding with_word
+word-twice place g word key e is there = rw (e, is, there) refl
+
+pub word-value : (place : ℕ) (g : Gathered) (word : List ℕ) (key : Key) → nat_lt (position_or_len is_equals word) (length word) ≡ true
+    → key_of (before_first is_equals word) ≡ Some key → stands g key ≡ false
+    → with_word place g word ≡ with_value place g key (after_first is_equals word)
+unfolding with_word
+word-value place g word key e is new = rw (e, is, new) refl
+
+-- ---- the words
+pub words-more : (place : ℕ) (g more : Gathered) (words : List (List ℕ)) (i : ℕ) → i < length words → with_word place g (get_or words i []) ≡ Ok more
+    → with_words place g (drop i words) ≡ with_words (place + 1) more (drop (i + 1) words)
+unfolding with_words
+words-more place g more words i inside e = rw (drop_more words i [] inside, e) refl
+
+pub words-stop : (place : ℕ) (g : Gathered) (words : List (List ℕ)) (i : ℕ) (fault : WordFault) → i < length words
+    → with_word place g (get_or words i []) ≡ Err fault → with_words place g (drop i words) ≡ Err fault
+unfolding with_words
+words-stop place g words i fault inside e = rw (drop_more words i [] inside, e) refl
+
+pub words-end : (place : ℕ) (g : Gathered) (words : List (List ℕ)) (i : ℕ) → length words ≤ i → with_words place g (drop i words) ≡ Ok g
+unfolding with_words
+words-end place g words i end = rw (drop_all i words end) refl
+
+-- ---- the job
+pub job-none : (words : List (List ℕ)) → length words ≡ 0 → job_of words ≡ Err NoCommand
+unfolding job_of
+job-none [] e = refl
+job-none (word ∷ words) e = absurd (omega arith)
+
+pub job-other : (words : List (List ℕ)) → 0 < length words → bytes_eq (get_or words 0 []) (codes "tp") ≡ false → job_of words ≡ Err NoCommand
+unfolding job_of
+job-other [] some e = absurd (omega arith)
+job-other (word ∷ words) some e = rw e refl
+
+-- what comes of all words
+abbrev pub job_after : Result Gathered WordFault → Result PlainJob WordFault
+job_after r = r >>= (λ g. asked_of g >>= (λ asked. Ok (PlainTp asked)))
+
+pub after-fault : (r : Result Gathered WordFault) (fault : WordFault) → r ≡ Err fault → job_after r ≡ Err fault
+after-fault r fault e = rw e refl
+
+pub after-missing : (r : Result Gathered WordFault) (g : Gathered) (fault : WordFault) → r ≡ Ok g → asked_of g ≡ Err fault → job_after r ≡ Err fault
+after-missing r g fault e missing = rw (e, missing) refl
+
+pub after-whole : (r : Result Gathered WordFault) (g : Gathered) (asked : Asked) → r ≡ Ok g → asked_of g ≡ Ok asked → job_after r ≡ Ok (PlainTp asked)
+after-whole r g asked e whole = rw (e, whole) refl
+
+pub job-tp : (words : List (List ℕ)) → 0 < length words → bytes_eq (get_or words 0 []) (codes "tp") ≡ true
+    → job_of words ≡ job_after (with_words 2 nothing (drop 1 words))
+unfolding job_of
+job-tp [] some e = absurd (omega arith)
+job-tp (word ∷ words) some e = rw e refl
+
+-- ---- answers
+pub answers-fault : {A B F : Type 0} (view : A → B) (wanted : Result B F) (r : Result A F) (fault : F) → r ≡ Err fault → wanted ≡ Err fault
+    → Answers view wanted r
+answers-fault view wanted r fault e w = rw e w
+
+pub answers-same : {A B F : Type 0} (view : A → B) (wanted found : Result B F) (r : Result A F) → wanted ≡ found → Answers view found r
+    → Answers view wanted r
+answers-same view wanted found r e a = rw e a
+
+-- ---- counts that were taken
+pub same_counted : (n : ℕ) (others : Option ℕ) (m : ℕ) (found : Option ℕ) (r : Bool) → m ≡ n → found ≡ others → r ≡ is_as_many m found
+    → is_as_many n others ≡ r
+same_counted n others m found r is are tested = sym (tested ∙ ap (λ (k : ℕ). is_as_many k found) is ∙ ap (is_as_many n) are)

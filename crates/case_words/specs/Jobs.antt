@@ -1,0 +1,116 @@
+-- What the words ask for, or their first fault.
+use Rattle.std.specs.Prelude.{ℕ, ◌+◌, List, [], ◌∷◌, length, Bool, ◌==◌, nat_lt, if◌then◌else◌, Option, Some, None, is_some, Result, Ok, Err, codes}
+use Rattle.std.specs.List.{position_or_len, before_first, after_first}
+use Rattle.std.specs.Str.{bytes_eq}
+use Rattle.case_words.specs.Answers.{◌>>=◌, when}
+use Rattle.case_words.specs.Keys.{key_of}
+use Rattle.case_words.specs.Counts.{is_as_many, count_of}
+use Rattle.case_words.specs.Items.{number_of, parts_of, names_of}
+use Rattle.case_words.specs.declared.keys.Key.{Key}
+use Rattle.case_words.specs.declared.keys.Key.TheVariants.{T, P, Z, Names, Tol, Budget}
+use Rattle.case_words.specs.declared.faults.WordFault.{WordFault}
+use Rattle.case_words.specs.declared.faults.WordFault.TheVariants.{NoCommand, Unknown, Twice, Count, Missing}
+
+-- what a flash is asked of: mK, Pa, the parts of the feed, the names, the tolerance and the budget
+pub record Asked : Type 0 where
+  pub t : ℕ
+  pub p : ℕ
+  pub z : List ℕ
+  pub names : List (List ℕ)
+  pub tol : ℕ
+  pub budget : ℕ
+
+-- what the words have given so far
+pub record Gathered : Type 0 where
+  pub t : Option ℕ
+  pub p : Option ℕ
+  pub z : Option (List ℕ)
+  pub names : Option (List (List ℕ))
+  pub tol : Option ℕ
+  pub budget : Option ℕ
+
+abbrev pub nothing : Gathered
+nothing = record { t = None; p = None; z = None; names = None; tol = None; budget = None }
+
+-- the key stood before
+abbrev pub stands : Gathered → Key → Bool
+stands g T = is_some g.t
+stands g P = is_some g.p
+stands g Z = is_some g.z
+stands g Names = is_some g.names
+stands g Tol = is_some g.tol
+stands g Budget = is_some g.budget
+
+-- with the value of a key
+unfoldable pub with_value : ℕ → Gathered → Key → List ℕ → Result Gathered WordFault
+with_value place g T value = do
+  t ← number_of place 3 50000 1500000 value
+  Ok (record g { t = Some t })
+with_value place g P value = do
+  p ← number_of place 0 1000 100000000 value
+  Ok (record g { p = Some p })
+with_value place g Z value = do
+  parts ← parts_of place value
+  when (is_as_many (length parts) (count_of g.names)) (record g { z = Some parts }) (Count place)
+with_value place g Names value = do
+  names ← names_of place value
+  when (is_as_many (length names) (count_of g.z)) (record g { names = Some names }) (Count place)
+with_value place g Tol value = do
+  tol ← number_of place 0 128 1048576 value
+  Ok (record g { tol = Some tol })
+with_value place g Budget value = do
+  budget ← number_of place 0 1 10000000 value
+  Ok (record g { budget = Some budget })
+
+-- with a key that stands for the first time
+abbrev pub with_key : ℕ → Gathered → Option Key → List ℕ → Result Gathered WordFault
+with_key place g None value = Err (Unknown place)
+with_key place g (Some key) value = if stands g key then Err (Twice place) else with_value place g key value
+
+abbrev pub is_equals : ℕ → Bool
+is_equals b = b == 61
+
+-- with the word at a place: the key ends at its first `=`
+unfoldable pub with_word : ℕ → Gathered → List ℕ → Result Gathered WordFault
+with_word place g word =
+    if nat_lt (position_or_len is_equals word) (length word)
+    then with_key place g (key_of (before_first is_equals word)) (after_first is_equals word)
+    else Err (Unknown place)
+
+-- with these words, the first at this place
+unfoldable pub with_words : ℕ → Gathered → List (List ℕ) → Result Gathered WordFault
+with_words place g [] = Ok g
+with_words place g (word ∷ words) = do
+  more ← with_word place g word
+  with_words (place + 1) more words
+
+-- what a key has given
+abbrev pub given : {A : Type 0} → Key → Option A → Result A WordFault
+given key None = Err (Missing key)
+given key (Some a) = Ok a
+
+-- all that is asked, or the first key that didn't stand
+unfoldable pub asked_of : Gathered → Result Asked WordFault
+asked_of g = do
+  t ← given T g.t
+  p ← given P g.p
+  z ← given Z g.z
+  names ← given Names g.names
+  tol ← given Tol g.tol
+  budget ← given Budget g.budget
+  Ok (record { t = t; p = p; z = z; names = names; tol = tol; budget = budget })
+
+-- a job as its command and what it asks
+pub data PlainJob : Type 0 where
+  PlainTp : Asked → PlainJob
+
+-- the job of the words, or their first fault: places count from 1, the command being word 1
+unfoldable pub job_of : List (List ℕ) → Result PlainJob WordFault
+job_of [] = Err NoCommand
+job_of (command ∷ words) =
+    if bytes_eq command (codes "tp")
+    then (do
+      g ← with_words 2 nothing words
+      asked ← asked_of g
+      Ok (PlainTp asked))
+    else Err NoCommand

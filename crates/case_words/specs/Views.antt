@@ -1,0 +1,32 @@
+-- What the types hold, as the definitions see it.
+use Rattle.std.specs.Prelude.{map}
+use Rattle.std.specs.Option.{option_map}
+use Rattle.case_words.specs.declared.gathering.Given.{Given}
+use Rattle.case_words.specs.declared.jobs.FlashWords.{FlashWords}
+use Rattle.case_words.specs.declared.jobs.Job.{Job}
+use Rattle.case_words.specs.declared.jobs.Job.TheVariants.{Tp}
+use Rattle.case_words.specs.Names.{text_of}
+use Rattle.case_words.specs.Jobs.{Gathered, Asked, PlainJob, PlainTp}
+
+abbrev pub gathered_of : Given → Gathered
+gathered_of g = record {
+  t = g.t;
+  p = g.p;
+  z = option_map (λ z. z.items) g.z;
+  names = option_map (λ names. map text_of names.items) g.names;
+  tol = g.tol;
+  budget = g.budget;
+}
+
+abbrev pub asked_by : FlashWords → Asked
+asked_by words = record {
+  t = words.t;
+  p = words.p;
+  z = words.z.items;
+  names = map text_of words.names.items;
+  tol = words.tol;
+  budget = words.budget;
+}
+
+abbrev pub plain_job : Job → PlainJob
+plain_job (Tp words) = PlainTp (asked_by words)

@@ -1,0 +1,60 @@
+//! The keys of the words.
+
+ghost use Rattle.std.specs.Prelude.{◌≡◌};
+
+/// A key of a word, in the order in which a missing one is named.
+#[derive(Clone, Copy, Debug, PartialEq, Eq)]
+pub enum Key {
+    /// The temperature in K.
+    T,
+    /// The pressure in Pa.
+    P,
+    /// The parts of the feed.
+    Z,
+    /// The names of the components.
+    Names,
+    /// The tolerance in 2^-20 bit.
+    Tol,
+    /// The units of work.
+    Budget,
+}
+
+impl Key {
+    ghost use Rattle.case_words.specs.Keys.{key_of, key_text};
+
+    /// The key that is spelled so.
+    #[tactic(auto, unfolding(crate::specs::Keys::key_of))]
+    pub fn from_bytes(bytes: &[u8]) -> Option<Key>
+        ensures { result ≡ key_of bytes.now }
+    {
+        if bytes == b"T".as_slice() {
+            Some(Key::T)
+        } else if bytes == b"P".as_slice() {
+            Some(Key::P)
+        } else if bytes == b"z".as_slice() {
+            Some(Key::Z)
+        } else if bytes == b"names".as_slice() {
+            Some(Key::Names)
+        } else if bytes == b"tol".as_slice() {
+            Some(Key::Tol)
+        } else if bytes == b"budget".as_slice() {
+            Some(Key::Budget)
+        } else {
+            None
+        }
+    }
+
+    /// The key as it is spelled.
+    pub fn text(self) -> &'static str
+        ensures { result.now ≡ key_text self }
+    {
+        match self {
+            Key::T => "T",
+            Key::P => "P",
+            Key::Z => "z",
+            Key::Names => "names",
+            Key::Tol => "tol",
+            Key::Budget => "budget",
+        }
+    }
+}

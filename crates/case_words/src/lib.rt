@@ -1,0 +1,23 @@
+//! The words of the command line: the job that they ask for, or the first fault with its place.
+//!
+//! The first word is the command, every other is `key=value`. [`read_words`] answers exactly the job of its words, or exactly
+//! their first fault. It takes no memory. The only command is `tp`; it wants each of its keys once, in any order.
+#![tactic(auto)]
+
+mod faults;
+mod gathering;
+mod items;
+mod jobs;
+mod keys;
+mod names;
+mod reading;
+#[cfg(test)]
+mod tests;
+mod words;
+
+pub use faults::WordFault;
+pub use jobs::{FlashWords, Job};
+pub use keys::Key;
+pub use names::{name_text, read_name};
+pub use reading::read_words;
+pub use words::Word;

@@ -1,0 +1,5 @@
+pub mod Digits
+pub mod DecimalForm
+pub mod FirstFault
+pub mod Signs
+pub mod Zeros
