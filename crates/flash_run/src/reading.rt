@@ -4,8 +4,8 @@ ghost use Rattle.std.specs.Prelude.{◌≡◌, ◌≤◌, ◌*◌, IfSome, IsTru
 ghost use Rattle.case_types.specs.Ranges.{is_acentric_factor};
 ghost use Rattle.flash_run.specs.InRange.{IsInRange};
 
-use case_words::{Word, read_name};
 use case_types::{Case, Name, Row, SLOTS};
+use case_words::{Word, read_name};
 use std::str;
 
 /// What the words ask for: temperature in K, pressure in Pa, component, tolerance and budget.
