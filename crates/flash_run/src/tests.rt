@@ -105,7 +105,7 @@ fn reads_table_of_one_form(rt: HostRuntime) -> Result<(), Fail> {
         (case.t, case.p, row.tc, row.pc, row.w),
         (300_000, 1_000_000, 300_000, 1_000_000, 0)
     );
-    assert_eq!(rt; Some(row.name), read_name(b"a"));
+    assert_eq!(rt; Ok(row.name), read_name(b"a"));
     Ok(())
 }
 
