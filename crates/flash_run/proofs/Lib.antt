@@ -2,3 +2,4 @@ pub mod Regroup
 pub mod Phases
 pub mod OneComponent
 pub mod Takes
+pub mod Form

@@ -1,5 +1,5 @@
 -- What an end says of its status, of its answer and of the source.
-use Rattle.std.specs.Prelude.{◌≡◌, ℕ, ◌+◌, ◌*◌, ◌^◌, ◌≤◌, ◌⊎◌, List, length, pos, ◌≤ℤ◌}
+use Rattle.std.specs.Prelude.{◌≡◌, ℕ, ◌+◌, ◌*◌, ◌^◌, ◌⊎◌, List, length, pos, ◌≤ℤ◌}
 use Rattle.std.specs.declared.option.Option.{Option}
 use Rattle.case_types.specs.declared.answers.Answer.{Answer}
 use Rattle.case_types.specs.declared.answers.Outcome.{Outcome}
@@ -8,8 +8,11 @@ use Rattle.case_types.specs.Divisions.{Certified, division_of}
 use Rattle.pr_params.specs.Kept.{pairs_kept}
 use Rattle.case_types.specs.Lawful.{IsLawful}
 use Rattle.pr_params.specs.declared.numbers.Params.{Params}
+use Rattle.io_edge.specs.Bytes.{ahead, IsSpent}
 use Rattle.io_edge.specs.Causes.{CountsFault}
 use Rattle.io_edge.specs.Reading.{TakesAtMost, TakesExactly}
+use Rattle.flash_run.specs.Form.{IsAsked, IsCaseOf}
+use Rattle.flash_run.specs.declared.asked.Asked.{Asked}
 use Rattle.flash_run.specs.declared.ends.End.{End}
 use Rattle.flash_run.specs.declared.ends.End.TheVariants.{Unbuilt, Read, TooLong, Flash, Memory}
 
@@ -35,28 +38,29 @@ IsReportable TooLong = Unit {0}
 IsReportable Memory = Unit {0}
 IsReportable (Flash params tol answer) = params.case.n ≡ 1
 
--- a flash of one component into one phase: the certified answer of its case, at its tolerance and some budget, with its
--- list of work
-pub record IsFlash (p : Params) (tol : ℕ) (a : Answer) : Type 0 where
-  pub one : p.case.n ≡ 1
+-- a flash of one component into one phase: the certified answer, with its list of work, of the case that the words and the
+-- whole table make, at the tolerance and the budget of the words
+pub record IsFlash (words : List (List ℕ)) (left left' : Option (List ℕ)) (p : Params) (tol : ℕ) (a : Answer) : Type 0 where
+  pub asked : Asked
+  pub words_are : IsAsked words asked
+  pub table : List ℕ
+  pub taken : left ≡ ahead table left'
+  pub ended : IsSpent left'
+  pub case : IsCaseOf asked table p.case
+  pub tol_is : tol ≡ asked.tol
   pub one_phase : length a.split.phases.items ≡ 1
-  pub tol_low : 128 ≤ tol
-  pub tol_high : tol ≤ 1048576
-  pub budget : ℕ
-  pub budget_low : 1 ≤ budget
-  pub budget_high : budget ≤ 10000000
   -- of the printed split, energy and gap, with the printed pairs
   pub certified : Certified p.case (pairs_kept p) (division_of a.split) a.u a.gap
   pub near : a.outcome ≡ Closed → a.gap ≤ℤ pos (3 * tol * 2 ^ 18)
-  pub lawful : IsLawful p.case tol budget a
+  pub lawful : IsLawful p.case tol asked.budget a
 
 -- what a flash that is reported is
-abbrev pub IsFlashed : End → Type 0
-IsFlashed Unbuilt = Unit {0}
-IsFlashed Read = Unit {0}
-IsFlashed TooLong = Unit {0}
-IsFlashed Memory = Unit {0}
-IsFlashed (Flash params tol answer) = IsFlash params tol answer
+abbrev pub IsFlashed : List (List ℕ) → Option (List ℕ) → Option (List ℕ) → End → Type 0
+IsFlashed words left left' Unbuilt = Unit {0}
+IsFlashed words left left' Read = Unit {0}
+IsFlashed words left left' TooLong = Unit {0}
+IsFlashed words left left' Memory = Unit {0}
+IsFlashed words left left' (Flash params tol answer) = IsFlash words left left' params tol answer
 
 -- one fault of the source was counted at Read, and none where words or table were judged
 abbrev pub CountsRead : End → ℕ → ℕ → Type 0
@@ -70,10 +74,15 @@ CountsRead (Flash params tol answer) faults faults' = faults' ≡ faults
 abbrev pub table_limit : ℕ
 table_limit = 4194304
 
--- the next byte past the limit was taken exactly at TooLong; only where memory was wanting may that byte be taken elsewhere
+-- the source was read to its end
+abbrev pub TakesWhole : Option (List ℕ) → Option (List ℕ) → Type 0
+TakesWhole left left' = TakesAtMost table_limit left left' × IsSpent left'
+
+-- a case is refused or flashed at the end of the source, words already before it; the next byte past the limit was taken
+-- exactly at TooLong, and only where memory was wanting may that byte be taken elsewhere
 abbrev pub Takes : End → Option (List ℕ) → Option (List ℕ) → Type 0
-Takes Unbuilt left left' = TakesAtMost table_limit left left'
+Takes Unbuilt left left' = (left' ≡ left) ⊎ TakesWhole left left'
 Takes Read left left' = TakesAtMost table_limit left left'
 Takes TooLong left left' = TakesExactly (table_limit + 1) left left'
 Takes Memory left left' = TakesAtMost (table_limit + 1) left left'
-Takes (Flash params tol answer) left left' = TakesAtMost table_limit left left'
+Takes (Flash params tol answer) left left' = TakesWhole left left'

@@ -2,3 +2,4 @@ pub mod Pieces
 pub mod ReportText
 pub mod Ends
 pub mod InRange
+pub mod Form

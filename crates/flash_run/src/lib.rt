@@ -4,6 +4,7 @@
 //! status and with what it printed, an [`End`].
 #![tactic(auto)]
 
+mod asked;
 mod ends;
 mod reading;
 mod reports;

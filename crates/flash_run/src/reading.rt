@@ -1,98 +1,116 @@
 //! The reader. It takes one form of input only: seven words in one order, and a table of one component.
 
-ghost use Rattle.std.specs.Prelude.{◌≡◌, ◌≤◌, ◌*◌, IfSome, IsTrue};
-ghost use Rattle.case_types.specs.Ranges.{is_acentric_factor};
+ghost use Rattle.std.specs.Prelude.{◌≡◌, ◌≤◌, ◌++◌, Ok, pos, codes, IfSome, IsTrue};
+ghost use Rattle.dec_text.specs.Decimals.{whole_of};
+ghost use Rattle.case_words.specs.Names.{text_of};
+ghost use Rattle.flash_run.specs.Form.{IsAsked, IsKeyed, IsRowOf, IsCaseOf, parted};
 ghost use Rattle.flash_run.specs.InRange.{IsInRange};
 
+use crate::asked::Asked;
 use case_types::{Case, Name, Row, SLOTS};
 use case_words::{Word, read_name};
-use std::str;
-
-/// What the words ask for: temperature in K, pressure in Pa, component, tolerance and budget.
-#[derive(Clone, Copy, Debug)]
-pub struct Asked {
-    pub t: u32,
-    pub p: u32,
-    pub name: Name,
-    pub tol: u32,
-    pub budget: u32,
-    pub ghost t_range: { (50 ≤ t) × (t ≤ 1500) },
-    pub ghost p_range: { (1000 ≤ p) × (p ≤ 100000000) },
-    pub ghost tol_range: { (128 ≤ tol) × (tol ≤ 1048576) },
-    pub ghost budget_range: { (1 ≤ budget) × (budget ≤ 10000000) },
-}
+use dec_text::read_whole;
 
 /// The words `tp T=.. P=.. z=1 names=.. tol=.. budget=..` in this order.
-pub fn read_words(words: &Vec<Word>) -> Option<Asked> {
-    if words.len() != 7
-        || words[0].bytes() != b"tp".as_slice()
-        || words[3].bytes() != b"z=1".as_slice()
-    {
+pub fn read_form(words: &Vec<Word>) -> Option<Asked>
+    ensures { IfSome result (IsAsked words.now.items) }
+{
+    let [command, t, p, z, names, tol, budget] = words.as_slice() else {
+        return None;
+    };
+    if !is_text(command, b"tp") || !is_text(z, b"z=1") {
         return None;
     }
     Some(Asked {
-        t: number(value(&words[1], "T=")?, 50, 1500)?,
-        p: number(value(&words[2], "P=")?, 1000, 100_000_000)?,
-        name: read_name(value(&words[4], "names=")?.as_bytes()).ok()?,
-        tol: number(value(&words[5], "tol=")?, 128, 1 << 20)?,
-        budget: number(value(&words[6], "budget=")?, 1, 10_000_000)?,
+        t: keyed(t, b"T=", 50, 1500)?,
+        p: keyed(p, b"P=", 1000, 100_000_000)?,
+        name: named(names)?,
+        tol: keyed(tol, b"tol=", 128, 1 << 20)?,
+        budget: keyed(budget, b"budget=", 1, 10_000_000)?,
     })
+}
+
+/// Whether a word is this text.
+fn is_text(word: &Word, text: &[u8]) -> bool
+    ensures { IsTrue result → word.now ≡ text.now }
+{
+    word.bytes() == text
+}
+
+/// The number behind the key of a word.
+fn keyed(word: &Word, key: &[u8], low: u32, high: u32) -> Option<u32>
+    ensures low { IfSome result (λ n. low ≤ n) }
+    ensures high { IfSome result (λ n. n ≤ high) }
+    ensures is { IfSome result (λ n. IsKeyed key.now n word.now) }
+{
+    number(value(word, key)?, low, high)
+}
+
+/// The name in a word.
+fn named(word: &Word) -> Option<Name>
+    ensures { IfSome result (λ name. word.now ≡ codes "names=" ++ text_of name) }
+{
+    spelled(value(word, b"names=")?)
 }
 
 /// What stands behind the key of a word.
-fn value<'a>(word: &'a Word, key: &str) -> Option<&'a str> {
-    str::from_utf8(word.bytes()).ok()?.strip_prefix(key)
+fn value<'a>(word: &'a Word, key: &[u8]) -> Option<&'a [u8]>
+    ensures { IfSome result (λ rest. word.now ≡ key.now ++ rest.now) }
+{
+    word.bytes().strip_prefix(key)
 }
 
-/// A number from `low` to `high`, of one to nine digits without a leading zero.
-fn number(text: &str, low: u32, high: u32) -> Option<u32>
-    ensures { IfSome result (λ n. (low ≤ n) × (n ≤ high)) }
+/// The name of this text.
+fn spelled(text: &[u8]) -> Option<Name>
+    ensures { IfSome result (λ name. text_of name ≡ text.now) }
 {
-    if text.len() > 9 || text.starts_with('0') || !text.bytes().all(|b| b.is_ascii_digit()) {
+    read_name(text).ok()
+}
+
+/// A whole number of one spelling, from `low` to `high`.
+fn number(text: &[u8], low: u32, high: u32) -> Option<u32>
+    ensures low { IfSome result (λ n. low ≤ n) }
+    ensures high { IfSome result (λ n. n ≤ high) }
+    ensures spelled { IfSome result (λ n. whole_of text.now ≡ Ok (pos n)) }
+{
+    let n = read_whole(text).ok()?;
+    if n < i128::from(low) || n > i128::from(high) {
         return None;
     }
-    let n = text.parse().ok()?;
-    if (low..=high).contains(&n) {
-        Some(n)
-    } else {
-        None
-    }
+    Some(n as u32)
 }
 
-/// The acentric factor 0 or 1.
-fn factor(text: &str) -> Option<i32>
-    ensures { IfSome result (λ w. IsTrue (is_acentric_factor w)) }
-{
-    match text {
-        "0" => Some(0),
-        "1" => Some(10_000),
-        _ => None,
-    }
-}
-
-/// The table `comp,<name>,<Tc>,<Pc>,<w>,` and its newline, Tc in whole kelvins.
+/// The table `comp,<name>,<Tc>,<Pc>,<w>,` and its newline: Tc in whole kelvins, w either 0 or 1.
 fn read_row(table: &[u8]) -> Option<Row>
-    ensures { IfSome result IsInRange }
+    ensures range { IfSome result IsInRange }
+    ensures row { IfSome result (IsRowOf table.now) }
 {
-    let line = str::from_utf8(table)
-        .ok()?
-        .strip_prefix("comp,")?
-        .strip_suffix(",\n")?;
-    let (name, rest) = line.split_once(',')?;
-    let (tc, rest) = rest.split_once(',')?;
-    let (pc, w) = rest.split_once(',')?;
+    let line = table
+        .strip_prefix(b"comp,".as_slice())?
+        .strip_suffix(b",\n".as_slice())?;
+    let (name, rest) = at_comma(line)?;
+    let (tc, rest) = at_comma(rest)?;
+    let (pc, w) = at_comma(rest)?;
     Some(Row {
-        name: read_name(name.as_bytes()).ok()?,
+        name: spelled(name)?,
         tc: number(tc, 5, 1500)? * 1000,
         pc: number(pc, 100_000, 50_000_000)?,
-        w: factor(w)?,
+        w: number(w, 0, 1)? as i32 * 10_000,
     })
+}
+
+/// The bytes before and after the first comma.
+fn at_comma(text: &[u8]) -> Option<(&[u8], &[u8])>
+    ensures { IfSome result (λ parts. text.now ≡ parted parts.0.now parts.1.now) }
+{
+    let comma = text.iter().position(|b| *b == b',')?;
+    Some((&text[..comma], &text[comma + 1..]))
 }
 
 /// The case of one component, if the table has the component of the words.
 pub fn read_case(asked: &Asked, table: &[u8]) -> Option<Case>
     ensures one { IfSome result (λ c. c.n ≡ 1) }
-    ensures conditions { IfSome result (λ c. (c.t ≡ asked.now.t * 1000) × (c.p ≡ asked.now.p)) }
+    ensures case { IfSome result (IsCaseOf asked.now table.now) }
 {
     let row = read_row(table)?;
     if row.name != asked.name {

@@ -3,7 +3,7 @@
 ghost use Rattle.std.specs.Prelude.{◌<◌};
 
 use super::*;
-use crate::reading::{read_case, read_words};
+use crate::reading::{read_case, read_form};
 use crate::reports::put_phase;
 use crate::texts::put_thousandths;
 use case_types::Phase;
@@ -67,15 +67,15 @@ fn reads_words_of_one_form(rt: HostRuntime) -> Result<(), Fail> {
         assert!(rt; place < 7);
         texts[place] = word;
         let words = words_of(alloc, &texts)?;
-        assert_eq!(rt; read_words(&words).is_some(), want, "{word}");
+        assert_eq!(rt; read_form(&words).is_some(), want, "{word}");
     }
-    assert!(rt; read_words(&Vec::new(alloc)).is_none());
+    assert!(rt; read_form(&Vec::new(alloc)).is_none());
     Ok(())
 }
 
 #[test]
 fn reads_table_of_one_form(rt: HostRuntime) -> Result<(), Fail> {
-    let asked = read_words(&words_of(rt.alloc(), &WORDS)?).ok_or("refused")?;
+    let asked = read_form(&words_of(rt.alloc(), &WORDS)?).ok_or("refused")?;
     // A table, and whether the case is read from it.
     let cases: [(&str, bool); 13] = [
         ("comp,a,300,1000000,0,\n", true),
@@ -112,7 +112,7 @@ fn reads_table_of_one_form(rt: HostRuntime) -> Result<(), Fail> {
 #[test]
 fn prints_phases_and_kelvins(rt: HostRuntime) -> Result<(), Fail> {
     let alloc = rt.alloc();
-    let asked = read_words(&words_of(alloc, &WORDS)?).ok_or("refused")?;
+    let asked = read_form(&words_of(alloc, &WORDS)?).ok_or("refused")?;
     let case = read_case(&asked, TABLE).ok_or("refused")?;
     let mut text = Vec::new(alloc);
     put_thousandths(&mut text, 273_150)?;

@@ -1,13 +1,13 @@
 //! The whole program, over its words, its input and its output.
 
-ghost use Rattle.std.specs.Prelude.{◌≡◌, ◌≢◌, ◌⊎◌, ◌≤◌, ◌+◌, ℕ};
+ghost use Rattle.std.specs.Prelude.{◌≡◌, ◌≢◌, ◌⊎◌, ◌≤◌, ◌+◌, ℕ, true};
 ghost use Rattle.io_edge.specs.Causes.{CountsFault};
 ghost use Rattle.io_edge.specs.Writing.{WritesAll, WritesSome};
 ghost use Rattle.flash_run.specs.ReportText.{report_text};
 ghost use Rattle.flash_run.specs.Ends.{status_of, IsFlashed, CountsRead, Takes};
 
 use crate::ends::{End, RunEnd};
-use crate::reading::{read_case, read_words};
+use crate::reading::{read_case, read_form};
 use crate::reports::report;
 use case_words::Word;
 use io_edge::{ReadStop, Sink, Source, read_all, write_all};
@@ -39,14 +39,17 @@ pub fn run<S: Source, K: Sink>(
     ensures nothing { result.status ≡ 8 → K.held sink.new ≡ K.held sink.old }
     ensures no_fault { result.status ≡ 8 → K.faults sink.new ≡ K.faults sink.old }
     ensures puts_once { K.faults sink.new ≤ K.faults sink.old + 1 }
+    ensures last_put { result.status ≡ 7 → K.failed sink.new ≡ true }
 
     // The source's count of faults, and the bytes that were taken.
     ensures read_fault { result.status ≡ 6 → CountsFault (S.faults source.old) (S.faults source.new) }
     ensures reads { CountsRead result.end (S.faults source.old) (S.faults source.new) }
     ensures takes { Takes result.end (S.left source.old) (S.left source.new) }
     ensures takes_once { S.faults source.new ≤ S.faults source.old + 1 }
+    ensures last_take { result.end ≡ End.Read → S.failed source.new ≡ true }
 
-    ensures answer { IsFlashed result.end }
+    // What is flashed.
+    ensures answer { IsFlashed words.now.items (S.left source.old) (S.left source.new) result.end }
 {
     let end = work(alloc, words, source);
     let Ok(text) = report(alloc, &end) else {
@@ -66,9 +69,10 @@ pub fn run<S: Source, K: Sink>(
 fn work<S: Source>(alloc: Global, words: &Vec<Word>, source: &mut S) -> End
     ensures takes { Takes result (S.left source.old) (S.left source.new) }
     ensures reads { CountsRead result (S.faults source.old) (S.faults source.new) }
-    ensures answer { IsFlashed result }
+    ensures last_take { result ≡ End.Read → S.failed source.new ≡ true }
+    ensures answer { IsFlashed words.now.items (S.left source.old) (S.left source.new) result }
 {
-    let Some(asked) = read_words(words) else {
+    let Some(asked) = read_form(words) else {
         return End::Unbuilt;
     };
     let table = match read_all(alloc, source, LIMIT) {
