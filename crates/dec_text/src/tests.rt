@@ -5,40 +5,41 @@ use std::test::Fail;
 
 const MAX: u64 = 1_000_000_000_000_000;
 
+/// A text, its places, and what it is.
+const UNSIGNED: [(&str, u32, Result<u64, DecFault>); 28] = [
+    ("007.50", 3, Ok(7500)),
+    ("1.0005", 3, Err(DecFault::Places)),
+    ("1.0000", 3, Ok(1000)),
+    ("", 0, Err(DecFault::Empty)),
+    ("0", 0, Ok(0)),
+    ("0", 4, Ok(0)),
+    ("12", 3, Ok(12_000)),
+    ("12.3", 3, Ok(12_300)),
+    ("49.999", 3, Ok(49_999)),
+    ("1.5", 0, Err(DecFault::Places)),
+    ("1.00", 0, Ok(1)),
+    ("5x", 3, Err(DecFault::Digit)),
+    ("x", 0, Err(DecFault::Digit)),
+    ("+300", 3, Err(DecFault::Sign)),
+    ("-1", 3, Err(DecFault::Sign)),
+    ("+", 0, Err(DecFault::Sign)),
+    ("1.", 3, Err(DecFault::Digit)),
+    (".5", 3, Err(DecFault::Digit)),
+    (".", 3, Err(DecFault::Digit)),
+    ("1.2.3", 3, Err(DecFault::Digit)),
+    ("1.0005x", 3, Err(DecFault::Digit)),
+    ("1e3", 3, Err(DecFault::Digit)),
+    (" 1", 0, Err(DecFault::Digit)),
+    ("1000000000000000", 0, Ok(MAX)),
+    ("1000000000000001", 0, Err(DecFault::TooLarge)),
+    ("1000000000000", 3, Ok(MAX)),
+    ("1000000000000.001", 3, Err(DecFault::TooLarge)),
+    ("1000000000000000.5", 0, Err(DecFault::Places)),
+];
+
 #[test]
 fn reads_unsigned_decimals(rt: HostRuntime) -> Result<(), Fail> {
-    // A text, its places, and what it is.
-    let cases: [(&str, u32, Result<u64, DecFault>); 28] = [
-        ("007.50", 3, Ok(7500)),
-        ("1.0005", 3, Err(DecFault::Places)),
-        ("1.0000", 3, Ok(1000)),
-        ("", 0, Err(DecFault::Empty)),
-        ("0", 0, Ok(0)),
-        ("0", 4, Ok(0)),
-        ("12", 3, Ok(12_000)),
-        ("12.3", 3, Ok(12_300)),
-        ("49.999", 3, Ok(49_999)),
-        ("1.5", 0, Err(DecFault::Places)),
-        ("1.00", 0, Ok(1)),
-        ("5x", 3, Err(DecFault::Digit)),
-        ("x", 0, Err(DecFault::Digit)),
-        ("+300", 3, Err(DecFault::Sign)),
-        ("-1", 3, Err(DecFault::Sign)),
-        ("+", 0, Err(DecFault::Sign)),
-        ("1.", 3, Err(DecFault::Digit)),
-        (".5", 3, Err(DecFault::Digit)),
-        (".", 3, Err(DecFault::Digit)),
-        ("1.2.3", 3, Err(DecFault::Digit)),
-        ("1.0005x", 3, Err(DecFault::Digit)),
-        ("1e3", 3, Err(DecFault::Digit)),
-        (" 1", 0, Err(DecFault::Digit)),
-        ("1000000000000000", 0, Ok(MAX)),
-        ("1000000000000001", 0, Err(DecFault::TooLarge)),
-        ("1000000000000", 3, Ok(MAX)),
-        ("1000000000000.001", 3, Err(DecFault::TooLarge)),
-        ("1000000000000000.5", 0, Err(DecFault::Places)),
-    ];
-    for (text, places, want) in cases {
+    for (text, places, want) in UNSIGNED {
         assert!(rt; places <= 4);
         assert_eq!(rt; read_dec(text.as_bytes(), places, MAX), want, "{text}");
     }

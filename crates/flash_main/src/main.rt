@@ -3,7 +3,6 @@
 
 use flash_run::{RunEnd, Word, run};
 use io_edge::{StdSink, StdSource};
-use std::alloc::{AllocError, Global};
 use std::process::ExitCode;
 use std::rt::Env;
 use std::{env, io};

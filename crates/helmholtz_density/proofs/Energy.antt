@@ -5,16 +5,7 @@ use Rattle.log_laws.specs.Squaring.{log_up, log_down}
 use Rattle.log_laws.specs.Whole.{floor_div, ceil_div}
 use Rattle.case_types.specs.Bounds.{Box, one, mixing_up, covolume_scale, covolume_range, ratio_low, lambda_down, energy_up}
 use Rattle.case_types.specs.Numbers.{Numbers}
-use Rattle.log_laws.specs.Sums.{int_sum_below}
-
--- a sum of one term
-first_only : (z : ℤ) → pos 0 +ℤ z ≡ z
-first_only z = omega (arith, ints)
-
--- a sum over one component is its term
-sum_at_one : (n : ℕ) (f : ℕ → ℤ) → n ≡ 1 → int_sum_below n f ≡ f 0
-unfolding int_sum_below
-sum_at_one n f h = rw h (first_only (f 0))
+use Rattle.pr_params.proofs.One.{sum_at_one}
 
 -- the volume term
 abbrev pub volume_part : Numbers → Box → ℕ → ℤ

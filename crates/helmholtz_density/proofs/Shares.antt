@@ -1,13 +1,12 @@
 -- The energy of a split from those of its phases, at most.
-use Rattle.std.proofs.Common.{ℕ, suc, ◌+◌, ◌-◌, ◌*◌, ◌^◌, ◌<◌, ◌≤◌, ◌≡◌, sym, ap, subst, List, [], ◌∷◌, map, slice_index, ℤ, pos, negsuc, ◌*ℤ◌, ◌≤ℤ◌, arith, lit<}
+use Rattle.std.proofs.Common.{ℕ, suc, ◌+◌, ◌*◌, ◌^◌, ◌<◌, ◌≤◌, ◌≡◌, sym, ap, subst, List, [], ◌∷◌, map, slice_index, ℤ, pos, negsuc, ◌*ℤ◌, ◌≤ℤ◌, arith, lit<}
 use Rattle.std.proofs.lemmas.Int.{ints}
-use Rattle.std.proofs.Math.Nat.{mul-le-mul_right, div-mul-le_self, lt-div-mul-add}
+use Rattle.std.proofs.Math.Nat.{mul-le-mul_right, div-mul-le_self}
 use Rattle.std.specs.Int.{int_max}
 use Rattle.std.proofs.lemmas.Int.{clamps}
 use borrow.Author.Differences.{up, down, le_out, at_most_in, product_is}
 use Rattle.log_laws.specs.Fraction.{IsAtMost, product_of, whole}
 use Rattle.log_laws.specs.LogSum.{AtMost, ratio, scaled, constant}
-use Rattle.log_laws.specs.Whole.{ceil_quotient}
 use Rattle.log_laws.specs.Sums.{sum_below}
 use Rattle.log_laws.proofs.Exports.{le-ceil_over, heightened, at_most_adds_at, at_most_scales, at_most_raises, constant_at_most, parts_self}
 use Rattle.case_types.specs.Bounds.{share_down, share_up, share_of_energy, phases_up, phase_up}
@@ -16,10 +15,7 @@ use Rattle.case_types.specs.declared.phases.Phase.{Phase}
 use Rattle.case_types.specs.Divisions.{bits, state_of, moles, energy_of, energy_of_phases}
 use Rattle.case_types.specs.Instances.{Instance}
 use Rattle.case_types.specs.Numbers.{Numbers}
-
--- n is at most d times its quotient rounded up
-le-ceil_quotient : (n d : ℕ) → 0 < d → n ≤ ceil_quotient n d * d
-le-ceil_quotient n d h = let l = lt-div-mul-add {a = n + (d - 1)} h in omega arith
+use Rattle.pr_params.proofs.Attracted.{le-ceiling}
 
 -- m/Q of u is at most s, where s is at least V times u and v times u over 2^60
 above_zero : (m Q k v V us ds : ℕ) → m * 2 ^ 60 ≤ V * Q → V * k + ds * 2 ^ 60 ≤ us * 2 ^ 60 → m * k * 2 ^ 40 + ds * (Q * 2 ^ 40) ≤ us * (Q * 2 ^ 40)
@@ -37,7 +33,7 @@ below_zero m Q k v us ds h l =
 -- the share of an energy is at most the share of it that is printed
 pub share_step : (m Q : ℕ) (u : ℤ) → 0 < Q → IsAtMost (product_of (ratio m Q) (bits u)) (bits (share_of_energy m Q u))
 share_step m Q (pos k) h =
-    shared (share_down (2 ^ 60) m Q) (share_up (2 ^ 60) m Q) (share_of_energy m Q (pos k)) (le-ceil_quotient (m * 2 ^ 60) Q h)
+    shared (share_down (2 ^ 60) m Q) (share_up (2 ^ 60) m Q) (share_of_energy m Q (pos k)) (le-ceiling (m * 2 ^ 60) Q h)
     (le-ceil_over (int_max (pos (share_down (2 ^ 60) m Q) *ℤ pos k) (pos (share_up (2 ^ 60) m Q) *ℤ pos k)) (2 ^ 60) (lit< tt))
   where
     shared : (v V : ℕ) (s : ℤ) → m * 2 ^ 60 ≤ V * Q → int_max (pos v *ℤ pos k) (pos V *ℤ pos k) ≤ℤ (s *ℤ pos (2 ^ 60)) →

@@ -1,10 +1,10 @@
 //! The energy of a split, at most.
 
-ghost use Rattle.std.specs.Prelude.{◌≡◌, ◌≤◌, ◌<◌, ◌^◌, ◌*◌, pos, ◌+ℤ◌, ◌*ℤ◌, ◌≤ℤ◌, unsigned_abs, slice_index};
+ghost use Rattle.std.specs.Prelude.{◌≡◌, ◌≤◌, ◌<◌, ◌^◌, ◌*◌, pos, ◌+ℤ◌, ◌*ℤ◌, unsigned_abs, slice_index};
 ghost use Rattle.log_laws.specs.LogSum.{AtMost};
 ghost use Rattle.log_laws.specs.Whole.{ceil_div, floor_div, ceil_quotient};
 ghost use Rattle.log_laws.specs.Sums.{sum_below};
-ghost use Rattle.case_types.specs.Bounds.{box_of_parts, phase_up, share_of_energy, share_down, share_up, split_up};
+ghost use Rattle.case_types.specs.Bounds.{box_of_parts, phase_up, share_of_energy, split_up};
 ghost use Rattle.case_types.specs.Divisions.{Divides, division_of, energy_of_division, bits, state_of};
 ghost use Rattle.case_types.specs.Holding.{IsInBox};
 ghost use Rattle.case_types.specs.Instances.{Instance, IsInstance};

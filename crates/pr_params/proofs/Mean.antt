@@ -1,10 +1,8 @@
 -- The mean co-volume and the mean attraction over it for one component.
-use Rattle.std.proofs.Common.{◌≡◌, ℕ, ◌+◌, ◌*◌, ◌/◌, ◌^◌, ◌<◌, ℤ, pos, negsuc, ◌+ℤ◌, ◌*ℤ◌, ◌≤ℤ◌, refl, sym, ◌∙◌, ap, arith, lit<, None, slice_index, [], ◌∷◌}
+use Rattle.std.proofs.Common.{◌≡◌, ℕ, ◌+◌, ◌*◌, ◌/◌, ◌^◌, ◌<◌, ℤ, pos, negsuc, ◌+ℤ◌, ◌*ℤ◌, ◌≤ℤ◌, refl, sym, ◌∙◌, ap, arith, lit<, None, slice_index}
 use Rattle.std.specs.Int.{int_min, int_max}
 use Rattle.std.proofs.lemmas.Int.{ints, clamps}
 use Rattle.log_laws.specs.Between.{Ends}
-use Rattle.log_laws.specs.LogE.{log_e_ends}
-use Rattle.log_laws.specs.Roots.{root_ends}
 use Rattle.log_laws.specs.Whole.{floor_div, ceil_div, ceil_quotient}
 use Rattle.log_laws.proofs.Exports.{ceil_over-pos}
 use Rattle.case_types.specs.declared.cases.Case.{Case}
@@ -12,28 +10,10 @@ use Rattle.case_types.specs.Bounds.{Box, one, covolume_range, attraction_low, at
 use Rattle.case_types.specs.Numbers.{Numbers, numbers_of, lift_of}
 use Rattle.log_laws.specs.Sums.{least_below, greatest_below, int_sum_below}
 use Rattle.case_types.specs.Faults.{fault_of}
-use Rattle.pr_params.specs.One.{num_one, den_one, alpha_one, bare_one, covolume_one, attraction_one, ratio_one}
+use Rattle.pr_params.specs.One.{num_one, den_one, covolume_one, attraction_one}
 use Rattle.pr_params.proofs.Accepted.{covolume_sizes}
-use Rattle.pr_params.proofs.One.{numbers_one}
+use Rattle.pr_params.proofs.One.{numbers_of_one, numbers_one}
 use Rattle.pr_params.proofs.Sizes.{den_positive}
-
--- the numbers, as far as the means read them
-abbrev pub numbers_by_one : Case → Numbers
-numbers_by_one c = record {
-  count = 1;
-  lift = lift_of c;
-  root_two = root_ends 2 1 60;
-  log_e = log_e_ends;
-  alpha_roots = alpha_one c ∷ [];
-  covolumes = covolume_one c ∷ [];
-  bare_attractions = (bare_one c ∷ []) ∷ [];
-  attractions = (attraction_one c ∷ []) ∷ [];
-  rho = int_max (pos 0) (int_max (pos 0) (ratio_one c));
-}
-
--- they are those of the case
-pub numbers_are : (c : Case) → c.n ≡ 1 → numbers_of c ≡ numbers_by_one c
-numbers_are c h = numbers_one c h
 
 -- a whole number over 1 is itself, rounded down
 whole_floor : (z : ℤ) → pos 0 ≤ℤ z → floor_div (z *ℤ pos one +ℤ pos 0) (pos one) ≡ z
@@ -63,13 +43,13 @@ range_of : (b : Ends) → pos 0 ≤ℤ b.lo → pos 0 ≤ℤ b.hi →
 range_of b low high = rw (whole_floor b.lo low, whole_ceil b.hi high, min_same b.lo, max_same b.lo, max_same b.hi, min_same b.hi) refl
 
 -- the range of one component
-range_at_one : (c : Case) (x : Box) → pos 0 ≤ℤ (covolume_one c).lo → pos 0 ≤ℤ (covolume_one c).hi → covolume_range (numbers_by_one c) x ≡ covolume_one c
+range_at_one : (c : Case) (x : Box) → pos 0 ≤ℤ (covolume_one c).lo → pos 0 ≤ℤ (covolume_one c).hi → covolume_range (numbers_of_one c) x ≡ covolume_one c
 unfolding covolume_range least_below greatest_below int_sum_below
 range_at_one c x low high = range_of (covolume_one c) low high
 
 -- the range of a case of one component is its co-volume
 range_one : (c : Case) (x : Box) → c.n ≡ 1 → pos 0 ≤ℤ (covolume_one c).lo → pos 0 ≤ℤ (covolume_one c).hi → covolume_range (numbers_of c) x ≡ covolume_one c
-range_one c x h low high = ap (λ (q : Numbers). covolume_range q x) (numbers_are c h) ∙ range_at_one c x low high
+range_one c x h low high = ap (λ (q : Numbers). covolume_range q x) (numbers_one c h) ∙ range_at_one c x low high
 
 -- the upper end of the co-volume isn't negative
 pub hi_positive : (c : Case) → pos 0 ≤ℤ (covolume_one c).hi
@@ -93,7 +73,7 @@ scaled_floor f n z e = rw (sym e) (ap (λ m. pos (m / one)) (omega arith))
 
 -- the attraction of one component at most
 high_at_one : (c : Case) (x : Box) (n : ℕ) → pos n ≡ (attraction_one c).hi →
-    attraction_high (numbers_by_one c) x ≡ pos (ceil_quotient (slice_index x.hi 0 * ceil_quotient (slice_index x.hi 0 * n) one) one)
+    attraction_high (numbers_of_one c) x ≡ pos (ceil_quotient (slice_index x.hi 0 * ceil_quotient (slice_index x.hi 0 * n) one) one)
 unfolding int_sum_below
 high_at_one c x n e =
     let f = slice_index x.hi 0 in
@@ -101,7 +81,7 @@ high_at_one c x n e =
 
 -- the attraction of one component at least
 low_at_one : (c : Case) (x : Box) (n : ℕ) → pos n ≡ (attraction_one c).lo →
-    attraction_low (numbers_by_one c) x ≡ pos (slice_index x.lo 0 * (slice_index x.lo 0 * n / one) / one)
+    attraction_low (numbers_of_one c) x ≡ pos (slice_index x.lo 0 * (slice_index x.lo 0 * n / one) / one)
 unfolding int_sum_below
 low_at_one c x n e =
     let f = slice_index x.lo 0 in
@@ -110,12 +90,12 @@ low_at_one c x n e =
 -- the attraction at most for a case of one component
 pub attraction_high_one : (c : Case) (x : Box) (n : ℕ) → c.n ≡ 1 → pos n ≡ (attraction_one c).hi →
     attraction_high (numbers_of c) x ≡ pos (ceil_quotient (slice_index x.hi 0 * ceil_quotient (slice_index x.hi 0 * n) one) one)
-attraction_high_one c x n h e = ap (λ (q : Numbers). attraction_high q x) (numbers_are c h) ∙ high_at_one c x n e
+attraction_high_one c x n h e = ap (λ (q : Numbers). attraction_high q x) (numbers_one c h) ∙ high_at_one c x n e
 
 -- the attraction at least for a case of one component
 pub attraction_low_one : (c : Case) (x : Box) (n : ℕ) → c.n ≡ 1 → pos n ≡ (attraction_one c).lo →
     attraction_low (numbers_of c) x ≡ pos (slice_index x.lo 0 * (slice_index x.lo 0 * n / one) / one)
-attraction_low_one c x n h e = ap (λ (q : Numbers). attraction_low q x) (numbers_are c h) ∙ low_at_one c x n e
+attraction_low_one c x n h e = ap (λ (q : Numbers). attraction_low q x) (numbers_one c h) ∙ low_at_one c x n e
 
 -- the ratio at most from natural numbers
 pub ratio_high_is : (p : Numbers) (x : Box) (m b : ℕ) → 0 < b → attraction_high p x ≡ pos m → (covolume_range p x).lo ≡ pos b →
@@ -131,4 +111,4 @@ ratio_low_is p x m b e g = rw (e, g) refl
 
 -- there is one component
 pub count_is : (c : Case) → c.n ≡ 1 → (numbers_of c).count ≡ 1
-count_is c h = ap (λ (q : Numbers). q.count) (numbers_are c h)
+count_is c h = ap (λ (q : Numbers). q.count) (numbers_one c h)

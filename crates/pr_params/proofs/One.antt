@@ -1,7 +1,8 @@
 -- The numbers and the faults of a case of one component.
-use Rattle.std.proofs.Common.{◌≡◌, ℕ, ◌*◌, ◌^◌, List, [], ◌∷◌, true, ◌&&◌, not, cond, nat_le, nat_lt, pos, refl, ◌∙◌, arith, ap, Option, None}
+use Rattle.std.proofs.Common.{◌≡◌, ℕ, ◌*◌, ◌^◌, List, [], ◌∷◌, true, ◌&&◌, not, cond, nat_le, nat_lt, ℤ, pos, ◌+ℤ◌, refl, ◌∙◌, arith, ap, Option, None}
 use Rattle.std.specs.Prelude.{int_lt}
 use Rattle.std.specs.Int.{int_min, int_max}
+use Rattle.std.proofs.lemmas.Int.{ints}
 use Rattle.log_laws.specs.Between.{Ends}
 use Rattle.log_laws.specs.LogE.{log_e_ends}
 use Rattle.log_laws.specs.Roots.{root_ends}
@@ -12,9 +13,19 @@ use Rattle.case_types.specs.CaseWords.{critical_temperature, critical_pressure}
 use Rattle.case_types.specs.Instances.{Enclosures}
 use Rattle.case_types.specs.Numbers.{Numbers, numbers_of, enclosures_of, lift_of, covolume_ends, alpha_root_ends, bare_attraction_ends, attraction_ends, table_below, pressure_root_of, greatest_ratio}
 use Rattle.case_types.specs.Faults.{fault_of, first_below, or_else, fault_where, alpha_fault, attraction_fault}
-use Rattle.log_laws.specs.Sums.{list_below, greatest_below, all_below}
+use Rattle.log_laws.specs.Sums.{list_below, greatest_below, all_below, int_sum_below}
 use Rattle.pr_params.specs.One.{num_one, den_one, root_one, alpha_one, covolume_one, bare_one, attraction_one, ratio_one}
 use Rattle.case_types.specs.Tables.{no_ends, ends_at, ends_of_pair}
+
+-- ---- sums
+-- a sum of one term
+first_only : (z : ℤ) → pos 0 +ℤ z ≡ z
+first_only z = omega (arith, ints)
+
+-- a sum over one component is its term
+pub sum_at_one : (n : ℕ) (f : ℕ → ℤ) → n ≡ 1 → int_sum_below n f ≡ f 0
+unfolding int_sum_below
+sum_at_one n f h = rw h (first_only (f 0))
 
 -- ---- the numbers
 -- the numbers of the first n components
@@ -52,7 +63,8 @@ numbers_are : (c : Case) → numbers_of c ≡ numbers_at c c.n
 unfolding numbers_of enclosures_of
 numbers_are c = refl
 
-abbrev numbers_of_one : Case → Numbers
+-- those of one component
+abbrev pub numbers_of_one : Case → Numbers
 numbers_of_one c = record {
   count = 1;
   lift = lift_of c;

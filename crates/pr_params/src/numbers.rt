@@ -1,11 +1,8 @@
 //! The numbers of a case.
 
-ghost use Rattle.std.specs.Prelude.{◌≡◌, ◌≤◌, ◌<◌, ◌^◌, ◌-◌, ℕ, pos, ◌≤ℤ◌, ◌<ℤ◌, None, unsigned_abs, slice_index_or};
+ghost use Rattle.std.specs.Prelude.{◌≡◌, None};
 ghost use Rattle.case_types.specs.Faults.{fault_of};
-ghost use Rattle.case_types.specs.Instances.{Enclosures};
 ghost use Rattle.case_types.specs.Numbers.{numbers_of, enclosures_of};
-ghost use Rattle.case_types.specs.Tables.{ends_at, ends_of_pair};
-ghost use Rattle.fix_interval.specs.Interval.{ends_of};
 ghost use Rattle.pr_params.specs.Held.{numbers_in, enclosures_in};
 
 use case_types::{Case, PAIRS, SLOTS};

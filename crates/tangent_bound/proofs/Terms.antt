@@ -8,7 +8,7 @@ use Rattle.log_laws.specs.Squaring.{log_up, log_down}
 use Rattle.log_laws.specs.Whole.{floor_div, ceil_div}
 use Rattle.case_types.specs.Bounds.{Box, one, mixing_low, volume_low, covolume_scale, covolume_range, ratio_high, lambda_up, energy_low}
 use Rattle.case_types.specs.Numbers.{Numbers}
-use Rattle.log_laws.specs.Sums.{int_sum_below}
+use Rattle.pr_params.proofs.One.{sum_at_one}
 
 -- ---- mixing
 -- no fraction adds nothing
@@ -90,15 +90,6 @@ volume_flat p b lo hi scale yl yh el eh es h k =
     ∙ rw (not_at_most (hi * yh * scale) (lo * b) (rw (mul_assoc hi yh scale) h), not_at_most (lo * b) (lo * yl * scale) (rw (mul_assoc lo yl scale) k)) refl
 
 -- ---- the energy
--- a sum of one term
-first_only : (z : ℤ) → pos 0 +ℤ z ≡ z
-first_only z = omega (arith, ints)
-
--- a sum over one component is its term
-sum_at_one : (n : ℕ) (f : ℕ → ℤ) → n ≡ 1 → int_sum_below n f ≡ f 0
-unfolding int_sum_below
-sum_at_one n f h = rw h (first_only (f 0))
-
 -- the attraction term
 abbrev pub attraction_part : Numbers → Box → ℕ → ℤ
 attraction_part p x y = ceil_div (ratio_high p x *ℤ lambda_up p y *ℤ pos (2 ^ 19)) p.root_two.lo
