@@ -1,8 +1,7 @@
 //! The search.
 
-ghost use Rattle.std.specs.Prelude.{◌≡◌, ◌≤◌, ◌<◌, ◌+◌, ◌-◌, ◌*◌, ◌^◌, ◌↔◌, List, ℤ, [], ◌∷◌, length, IsTrue, IsFalse, IfSome, IfNone, Some, pos, neg_ℤ, ◌≤ℤ◌, ◌<ℤ◌, unsigned_abs};
-ghost use Rattle.std.specs.Int.{int_min};
-ghost use Rattle.case_types.specs.Cells.{Region, region_of, plain_low, midpoint as middle_of_region};
+ghost use Rattle.std.specs.Prelude.{◌≡◌, ◌≤◌, ◌+◌, ◌-◌, ◌*◌, ◌^◌, ℤ, [], ◌∷◌, length, IfSome, IfNone, Some, pos, ◌≤ℤ◌, unsigned_abs};
+ghost use Rattle.case_types.specs.Cells.{region_of, midpoint as middle_of_region};
 ghost use Rattle.case_types.specs.Searches.{MiddleRefutes};
 ghost use Rattle.case_types.specs.Columns.{IsColumn, Refutes, point_of};
 ghost use Rattle.case_types.specs.Numbers.{numbers_of};
@@ -13,7 +12,7 @@ use crate::found::Found;
 use crate::points::{column_at, refutes};
 use crate::stack::Stack;
 use case_types::{Cell, Column, Letters, Plane, Units};
-use density_boxes::{edge_to_halve, is_unit, midpoint, misses};
+use density_boxes::{edge_to_halve, is_unit, midpoint};
 use pr_params::Params;
 use tangent_bound::low_plain;
 

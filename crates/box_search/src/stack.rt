@@ -1,6 +1,6 @@
 //! The cells that are still to be looked at.
 
-ghost use Rattle.std.specs.Prelude.{◌≡◌, ◌≤◌, ◌<◌, ◌+◌, [], ◌∷◌, List, length, IfSome, IfNone};
+ghost use Rattle.std.specs.Prelude.{◌≡◌, ◌≤◌, ◌+◌, [], ◌∷◌, List, length, IfSome, IfNone};
 ghost use Rattle.case_types.specs.Cells.{region_of, root_region, lower_half, upper_half, edge_length};
 
 use arrayvec::ArrayVec;

@@ -1,6 +1,6 @@
 //! The answer of a flash.
 
-ghost use Rattle.std.specs.Prelude.{◌≡◌, ◌≤◌, ◌<◌, ◌^◌, [], ◌∷◌, pos, neg_ℤ, ◌≤ℤ◌, ◌<ℤ◌, ◌-ℤ◌, unsigned_abs, length, IfSome, IfNone};
+ghost use Rattle.std.specs.Prelude.{◌≡◌, ◌<◌, ◌^◌, [], ◌∷◌, ◌-ℤ◌, unsigned_abs, length};
 ghost use Rattle.case_types.specs.Bases.{IsSplitOver};
 ghost use Rattle.case_types.specs.Bounds.{plane_at, split_up};
 ghost use Rattle.case_types.specs.Divisions.{Divides, division_of};

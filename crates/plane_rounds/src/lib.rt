@@ -8,6 +8,8 @@ mod answers;
 mod flash;
 mod rounds;
 mod splits;
+#[cfg(test)]
+mod tests;
 mod top;
 
 pub use flash::flash_tp;

@@ -1,6 +1,6 @@
 //! The tangent plane and the split of a basis of one column.
 
-ghost use Rattle.std.specs.Prelude.{◌≡◌, ◌≤◌, ◌<◌, ◌^◌, [], ◌∷◌, length, unsigned_abs};
+ghost use Rattle.std.specs.Prelude.{◌≡◌, ◌≤◌, ◌^◌, [], ◌∷◌, length, unsigned_abs};
 ghost use Rattle.case_types.specs.Bounds.{split_up};
 ghost use Rattle.case_types.specs.Columns.{IsColumn};
 ghost use Rattle.case_types.specs.Divisions.{Divides, division_of};

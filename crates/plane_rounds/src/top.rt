@@ -1,12 +1,12 @@
 //! The rounds of a flash: a plane, a search under it, a column that cuts it off, and the next plane.
 
-ghost use Rattle.std.specs.Prelude.{◌≡◌, ◌≤◌, ◌<◌, ◌+◌, ◌*◌, ◌^◌, [], ◌∷◌, ◌++◌, pos, ◌≤ℤ◌, IfOk, length};
+ghost use Rattle.std.specs.Prelude.{◌≡◌, ◌≤◌, ◌<◌, ◌+◌, ◌^◌, [], ◌∷◌, ◌++◌, pos, ◌≤ℤ◌, IfOk, length};
 ghost use Rattle.case_types.specs.Answers.{IsAnswer, delta_of};
 ghost use Rattle.case_types.specs.Columns.{IsColumn};
 ghost use Rattle.case_types.specs.Lawful.{IsLawful};
 ghost use Rattle.case_types.specs.Numbers.{numbers_of};
 ghost use Rattle.plane_rounds.specs.Noted.{last_enters};
-ghost use Rattle.plane_rounds.specs.Room.{HasRoom, IsCounted};
+ghost use Rattle.plane_rounds.specs.Room.{HasRoom};
 
 use crate::answers::{Ending, Next, answer_of, next_of};
 use crate::rounds::{cut_short, round};

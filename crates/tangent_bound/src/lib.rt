@@ -6,6 +6,8 @@ mod mixes;
 mod plain;
 mod planes;
 mod pulls;
+#[cfg(test)]
+mod tests;
 mod volumes;
 
 pub use lower::low_energy;

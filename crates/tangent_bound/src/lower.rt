@@ -20,11 +20,14 @@ use pr_params::{Params, b_range, g_hi};
 /// 1 in 2^-40.
 const ONE: u64 = 1 << 40;
 
-/// The energy at every composition of the box and every packing from `ylo` to `yhi` is at least this, in 2^-40 bit.
+/// The energy at every composition of the box and every packing from `ylo` to `yhi` is at least this, in 2^-40 bit. The
+/// ends may be the same.
 pub fn low_energy(params: &Params, x: &BoxX, ylo: u64, yhi: u64) -> i128
     requires one { params.now.case.n ≡ 1 }
-    requires ordered { ylo < yhi }
+    requires ordered { ylo ≤ yhi }
     requires inside { yhi ≤ 2 ^ 40 }
+    requires room { ylo < 2 ^ 40 }
+    requires some { 1 ≤ yhi }
     ensures value { result ≡ energy_low (numbers_of params.now.case) (box_of x.now) ylo yhi }
     ensures at_least { (roots : Instance) (f : State) →
         IsInstance params.now.case (enclosures_of params.now.case) roots →

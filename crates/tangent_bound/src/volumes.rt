@@ -12,8 +12,9 @@ use pr_params::Params;
 pub fn volume(params: &Params, b: u128, ylo: u64, yhi: u64) -> i128
     requires low { 2 ^ 60 ≤ b }
     requires high { b ≤ 2 ^ 61 }
-    requires ordered { ylo < yhi }
+    requires ordered { ylo ≤ yhi }
     requires inside { yhi ≤ 2 ^ 40 }
+    requires some { 1 ≤ yhi }
     ensures value { result ≡ volume_low (numbers_of params.now.case) (pos b) ylo yhi }
     ensures small { unsigned_abs result ≤ 2 ^ 87 }
 {
