@@ -1,0 +1,5 @@
+pub mod CsvText
+pub mod Records
+pub mod Tables
+pub mod Keeping
+pub mod Views
