@@ -7,15 +7,17 @@ use Rattle.std.proofs.lemmas.Bool.{and_parts, leb-true}
 use Rattle.dec_text.specs.Decimals.{decimal_of, signed_decimal_of}
 use Rattle.dec_text.specs.declared.faults.DecFault.{DecFault}
 use Rattle.case_types.specs.Ranges.{is_critical_temperature, is_critical_pressure, is_acentric_factor, is_interaction}
+use Rattle.std.proofs.lemmas.List.Folds.{list_all-append}
 use Rattle.case_words.specs.Answers.{◌>>=◌, when}
 use Rattle.case_words.specs.Names.{name_of}
 use Rattle.case_words.proofs.Kept.{when_good, if_good, unless_good, same_good}
 use Rattle.component_table.specs.declared.faults.TableFault.{TableFault}
 use Rattle.component_table.specs.declared.faults.TableFault.TheVariants.{Fields, Utf8, Kind, Range, Twice, TooMany}
-use Rattle.component_table.specs.declared.tables.PairRow.{PairRow}
+use Rattle.component_table.specs.declared.rows.PairRow.{PairRow}
 use Rattle.component_table.specs.Records.{PlainRow, PlainRecord, PlainComp, PlainPair, PlainCp, field, valued, ranged, nothing_of, comp_of, pair_of, cp_of, typed_of, record_of}
 use Rattle.component_table.specs.Tables.{Held, nothing, index_in, known, is_pair, is_of, with_places, with_place, with_comp, with_pair, with_cp, with_record, with_fields, with_records, table_of}
-use Rattle.component_table.specs.Keeping.{is_row, is_pair_row, IsSaid, IsKept}
+use Rattle.component_table.specs.Rows.{is_row, is_pair_row}
+use Rattle.component_table.specs.Keeping.{IsSaid, IsKept}
 use Rattle.component_table.proofs.ByKind.{name_at, tc_at, pc_at, w_at, k_at, coefficient_at, nothing_at}
 use Rattle.component_table.proofs.Signed.{written-back}
 
@@ -103,3 +105,63 @@ interaction-small (negsuc n) e = omega (arith, leb-true n 4999 (and_parts (nat_l
 pub pair-back : (n : ℕ) (fs : List (List ℕ)) (first second : List ℕ) (k : ℤ) → record_of n fs ≡ Ok (PlainPair first second k)
     → to_z w32 (of_z w32 k) ≡ k
 pair-back n fs first second k e = written-back k (interaction-small k (record-said n fs (PlainPair first second k) e))
+
+-- ---- one item more of a list that passes
+all-push : {X : Type 0} (p : X → Bool) (xs : List X) (x : X) → list_all p xs ≡ true → p x ≡ true → list_all p (xs ++ x ∷ []) ≡ true
+all-push p xs x before here = rw (list_all-append p xs (x ∷ []), before, here) refl
+
+-- ---- each record keeps it
+kept-comp : (n : ℕ) (t more : Held) (row : PlainRow) → with_comp n t row ≡ Ok more → is_row row ≡ true → IsKept t → IsKept more
+unfolding with_comp
+kept-comp n t more row e in_row k =
+    let with_it : Held = record t { comps = t.comps ++ row ∷ [] } in
+    let new = unless_good (nat_lt (index_in t.comps row.name) (length t.comps)) (cond (nat_le 256 (length t.comps)) (Err (TooMany n)) (Ok with_it)) more (Twice n) e in
+    let room = unless_good (nat_le 256 (length t.comps)) (Ok with_it) more (TooMany n) new in
+    subst IsKept (same_good with_it more room) (record { rows = all-push is_row t.comps row k.rows in_row; interactions = k.interactions })
+
+pair-kept : (n : ℕ) (t more : Held) (first second : Result ℕ TableFault) (k : ℤ)
+    → (first >>= (λ (i : ℕ). second >>= (λ (j : ℕ). with_places n t i j k))) ≡ Ok more → is_interaction k ≡ true → IsKept t → IsKept more
+pair-kept n t more (Err f) second k e in_k kept = absurd (cc)
+pair-kept n t more (Ok i) (Err f) k e in_k kept = absurd (cc)
+pair-kept n t more (Ok i) (Ok j) k e in_k kept =
+    let pair : PairRow = record { i = i; j = j; k = k } in
+    let with_it : Held = record t { pairs = t.pairs ++ pair ∷ [] } in
+    let new = unless_good (i == j || list_any (is_pair i j) t.pairs) (Ok with_it) more (Twice n) e in
+    subst IsKept (same_good with_it more new) (record { rows = kept.rows; interactions = all-push is_pair_row t.pairs pair kept.interactions in_k })
+
+cp-kept : (n : ℕ) (t more : Held) (at : Result ℕ TableFault) (cp : List ℤ) → (at >>= (λ (i : ℕ). with_place n t i cp)) ≡ Ok more → IsKept t → IsKept more
+cp-kept n t more (Err f) cp e kept = absurd (cc)
+cp-kept n t more (Ok i) cp e kept =
+    let with_it : Held = record t { cps = t.cps ++ record { i = i; cp = cp } ∷ [] } in
+    let new = unless_good (list_any (is_of i) t.cps) (Ok with_it) more (Twice n) e in
+    subst IsKept (same_good with_it more new) (record { rows = kept.rows; interactions = kept.interactions })
+
+kept-record : (n : ℕ) (t more : Held) (said : PlainRecord) → with_record n t said ≡ Ok more → IsSaid said → IsKept t → IsKept more
+unfolding with_pair with_cp
+kept-record n t more (PlainComp row) e in_range kept = kept-comp n t more row e in_range kept
+kept-record n t more (PlainPair first second k) e in_range kept = pair-kept n t more (known n t.comps first) (known n t.comps second) k e in_range kept
+kept-record n t more (PlainCp name cp) e in_range kept = cp-kept n t more (known n t.comps name) cp e kept
+
+fields-kept : (n : ℕ) (t more : Held) (said : Result PlainRecord TableFault) → ((r : PlainRecord) → said ≡ Ok r → IsSaid r)
+    → (said >>= with_record n t) ≡ Ok more → IsKept t → IsKept more
+fields-kept n t more (Err f) in_range e kept = absurd (cc)
+fields-kept n t more (Ok r) in_range e kept = kept-record n t more r e (in_range r refl) kept
+
+kept-fields : (n : ℕ) (t more : Held) (fs : List (List ℕ)) → with_fields n t fs ≡ Ok more → IsKept t → IsKept more
+unfolding with_fields
+kept-fields n t more fs e kept = fields-kept n t more (record_of n fs) (record-said n fs) e kept
+
+-- ---- so do all records
+pub kept-records : (n : ℕ) (t more : Held) (rs : List (List (List ℕ))) → with_records n t rs ≡ Ok more → IsKept t → IsKept more
+unfolding with_records
+kept-records n t more [] e kept = subst IsKept (same_good t more e) kept
+kept-records n t more (fs ∷ rs) e kept =
+    go (with_fields n t fs) (λ (m : Held) (h : with_fields n t fs ≡ Ok m). kept-fields n t m fs h kept) (λ (m : Held). kept-records (n + 1) m more rs) e
+  where
+    go : (r : Result Held TableFault) → ((m : Held) → r ≡ Ok m → IsKept m) → ((m : Held) → with_records (n + 1) m rs ≡ Ok more → IsKept m → IsKept more)
+        → (r >>= (λ (m : Held). with_records (n + 1) m rs)) ≡ Ok more → IsKept more
+    go (Err f) here later e = absurd (cc)
+    go (Ok m) here later e = later m e (here m refl)
+
+pub kept-nothing : IsKept nothing
+kept-nothing = record { rows = refl; interactions = refl }

@@ -9,7 +9,7 @@ use Rattle.case_types.specs.declared.cases.Row.{Row}
 use Rattle.case_words.specs.Names.{text_of}
 use Rattle.component_table.specs.Records.{PlainRow}
 use Rattle.component_table.specs.Tables.{has_name, index_in, known}
-use Rattle.component_table.specs.Views.{plain_row}
+use Rattle.component_table.specs.Rows.{plain_row}
 use Rattle.component_table.specs.declared.faults.TableFault.TheVariants.{UnknownName}
 
 -- ---- the first item that passes, item by item

@@ -7,8 +7,8 @@ use Rattle.component_table.specs.declared.faults.TableFault.{TableFault}
 use Rattle.component_table.specs.declared.faults.TableFault.TheVariants.{Fields, UnknownName, Twice, TooMany}
 use Rattle.component_table.specs.declared.faults.TableError.{TableError}
 use Rattle.component_table.specs.declared.faults.TableError.TheVariants.{Fault, Memory}
-use Rattle.component_table.specs.declared.tables.PairRow.{PairRow}
-use Rattle.component_table.specs.declared.tables.CpRow.{CpRow}
+use Rattle.component_table.specs.declared.rows.PairRow.{PairRow}
+use Rattle.component_table.specs.declared.rows.CpRow.{CpRow}
 use Rattle.component_table.specs.Records.{PlainRow, PlainRecord, PlainComp, PlainPair, PlainCp, record_of}
 
 -- what a table holds, each list in the order of the records

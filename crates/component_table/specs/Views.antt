@@ -1,16 +1,13 @@
 -- What the types hold, as the definitions see it.
 use Rattle.std.specs.Prelude.{map}
-use Rattle.case_types.specs.declared.cases.Row.{Row}
 use Rattle.case_words.specs.Names.{text_of}
 use Rattle.component_table.specs.declared.tables.Table.{Table}
 use Rattle.component_table.specs.declared.draft.Draft.{Draft}
 use Rattle.component_table.specs.declared.records.Record.{Record}
 use Rattle.component_table.specs.declared.records.Record.TheVariants.{Comp, Pair, Cp}
-use Rattle.component_table.specs.Records.{PlainRow, PlainRecord, PlainComp, PlainPair, PlainCp}
+use Rattle.component_table.specs.Records.{PlainRecord, PlainComp, PlainPair, PlainCp}
+use Rattle.component_table.specs.Rows.{plain_row}
 use Rattle.component_table.specs.Tables.{Held}
-
-abbrev pub plain_row : Row → PlainRow
-plain_row r = record { name = text_of r.name; tc = r.tc; pc = r.pc; w = r.w }
 
 abbrev pub plain_record : Record → PlainRecord
 plain_record (Comp row) = PlainComp (plain_row row)

@@ -3,7 +3,7 @@
 use crate::faults::{TableError, TableFault};
 use crate::finding::{has_cp, has_pair, index_of, place_of};
 use crate::records::{Record, read_record};
-use crate::tables::{CpRow, PairRow};
+use crate::rows::{CpRow, PairRow};
 use case_types::{Name, Row};
 use csv::ByteRecord;
 use std::alloc::Global;
@@ -24,7 +24,8 @@ impl Draft {
     ghost use Rattle.csv.specs.Records.{fields_of};
     ghost use Rattle.case_words.specs.Names.{text_of};
     ghost use Rattle.component_table.specs.Tables.{with_fields, with_comp, with_pair, with_cp, Explains};
-    ghost use Rattle.component_table.specs.Views.{plain_row, drafted};
+    ghost use Rattle.component_table.specs.Rows.{plain_row};
+    ghost use Rattle.component_table.specs.Views.{drafted};
 
     /// Nothing yet.
     pub fn new(alloc: Global) -> Draft

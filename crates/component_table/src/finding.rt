@@ -5,10 +5,10 @@ ghost use Rattle.std.specs.List.{position_or_len, list_any};
 ghost use Rattle.case_words.specs.Answers.{Answers};
 ghost use Rattle.case_words.specs.Names.{text_of};
 ghost use Rattle.component_table.specs.Tables.{has_name, known, is_pair, is_of};
-ghost use Rattle.component_table.specs.Views.{plain_row};
+ghost use Rattle.component_table.specs.Rows.{plain_row};
 
 use crate::faults::TableFault;
-use crate::tables::{CpRow, PairRow};
+use crate::rows::{CpRow, PairRow};
 use case_types::{Name, Row};
 use case_words::name_text;
 

@@ -10,8 +10,10 @@ mod finding;
 mod numbers;
 mod reading;
 mod records;
+mod rows;
 mod tables;
 
 pub use faults::{TableError, TableFault};
 pub use reading::read_table;
-pub use tables::{CpRow, PairRow, Table};
+pub use rows::{CpRow, PairRow};
+pub use tables::Table;

@@ -1,28 +1,19 @@
 //! What a table holds.
 
+ghost use Rattle.std.specs.Prelude.{IsTrue, map};
+ghost use Rattle.std.specs.List.{list_all};
+ghost use Rattle.component_table.specs.Rows.{plain_row, is_row, is_pair_row};
+
+use crate::rows::{CpRow, PairRow};
 use case_types::Row;
 
-/// The components, interactions and heat capacities of a table, each in the order of the records.
+/// The components, interactions and heat capacities of a table, each in the order of the records. All components and
+/// interactions are in their ranges.
 #[derive(Drop)]
 pub struct Table {
     pub comps: Vec<Row>,
     pub pairs: Vec<PairRow>,
     pub cps: Vec<CpRow>,
-}
-
-/// The interaction of two components. They are named by their places among the components, from 1.
-#[derive(Clone, Copy, Debug, PartialEq, Eq)]
-pub struct PairRow {
-    pub i: u32,
-    pub j: u32,
-    /// The interaction in 1e-4.
-    pub k: i32,
-}
-
-/// The heat capacity of a component. It is named by its place among the components, from 1.
-#[derive(Clone, Copy, Debug, PartialEq, Eq)]
-pub struct CpRow {
-    pub i: u32,
-    /// The coefficients of a cubic in the temperature over 1000 K, the constant first, in 1e-3 J/(mol K).
-    pub cp: [i32; 4],
+    pub ghost rows: { IsTrue (list_all is_row (map plain_row comps.items)) },
+    pub ghost interactions: { IsTrue (list_all is_pair_row pairs.items) },
 }

@@ -2,7 +2,7 @@ use Rattle.std.proofs.Common.{◌≡◌, ◌≤◌, ℕ, length, map, arith, sym
 use Rattle.std.proofs.lemmas.List.{length-map}
 use Rattle.case_words.specs.Names.{text_of}
 use Rattle.component_table.specs.Tables.{has_name}
-use Rattle.component_table.specs.Views.{plain_row}
+use Rattle.component_table.specs.Rows.{plain_row}
 use Rattle.component_table.proofs.Places.{position-more, position-here, position-end, row-here}
 use Rattle.component_table.proofs.finding.index_of.Goals as goal
 

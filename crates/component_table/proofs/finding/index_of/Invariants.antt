@@ -2,7 +2,7 @@ use Rattle.std.proofs.Common.{◌≡◌, ◌+◌, drop, map}
 use Rattle.std.specs.List.{position_or_len}
 use Rattle.case_words.specs.Names.{text_of}
 use Rattle.component_table.specs.Tables.{has_name}
-use Rattle.component_table.specs.Views.{plain_row}
+use Rattle.component_table.specs.Rows.{plain_row}
 use Rattle.component_table.proofs.finding.index_of.Given as goal
 
 abbrev pub invariant-loop-i : goal.invariant-loop-i

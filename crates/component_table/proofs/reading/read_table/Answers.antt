@@ -5,8 +5,9 @@ use Rattle.csv.specs.Reading.{Reached, default_config, strip_bom}
 use Rattle.csv.specs.Records.{fields_of}
 use Rattle.csv.specs.declared.parser.State.TheVariants as st
 use Rattle.csv.proofs.ReadFacts.{rows-end, rows-more}
-use Rattle.component_table.specs.Tables.{with_records}
+use Rattle.component_table.specs.Tables.{with_records, nothing}
 use Rattle.component_table.specs.Views.{drafted}
+use Rattle.component_table.proofs.Kept.{kept-records, kept-nothing}
 use Rattle.component_table.proofs.Reached.{few, faulty, complete, no_record, grows}
 use Rattle.component_table.proofs.reading.read_table.Goals as goal
 
@@ -82,3 +83,9 @@ returns-clause-table c =
     complete c.args.bytes.now inv.4 inv.6 c.loop-record.record-iterator.rdr.state (drafted c.loop-record.draft) inv.7
     (rows-end (λ (s : Bor (List ℕ)). Some s.now) c.loop-record.record-iterator.rdr c.next.new.self.rdr [] default_config inv.4 inv.3 inv.5 s)
     inv.8 (omega (arith, inv.9, c.if-n-eq0.false))
+
+pub invariant_of-result : goal.invariant_of-result
+invariant_of-result c =
+    let inv = c.loop-record.invariant in
+    let kept = kept-records 1 nothing (drafted c.loop-record.draft) inv.6 inv.8 kept-nothing in
+    record { rows = kept.rows; interactions = kept.interactions }

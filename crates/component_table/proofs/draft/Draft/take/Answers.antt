@@ -2,12 +2,13 @@ use Rattle.std.proofs.Common.{◌≡◌, ◌≢◌, ◌<◌, ◌≤◌, ◌++◌
 use Rattle.std.proofs.lemmas.List.{map_push, length-map}
 use Rattle.case_types.specs.declared.cases.Row.{Row}
 use Rattle.case_words.specs.Names.{text_of}
-use Rattle.component_table.specs.declared.tables.PairRow.{PairRow}
-use Rattle.component_table.specs.declared.tables.CpRow.{CpRow}
+use Rattle.component_table.specs.declared.rows.PairRow.{PairRow}
+use Rattle.component_table.specs.declared.rows.CpRow.{CpRow}
 use Rattle.component_table.specs.declared.records.Record.{Record}
 use Rattle.component_table.specs.Records.{PlainRow, PlainComp, PlainPair, PlainCp}
 use Rattle.component_table.specs.Tables.{index_in, known, is_pair, is_of}
-use Rattle.component_table.specs.Views.{plain_row, plain_record, drafted}
+use Rattle.component_table.specs.Rows.{plain_row}
+use Rattle.component_table.specs.Views.{plain_record, drafted}
 use Rattle.csv.specs.Records.{fields_of}
 use Rattle.component_table.proofs.Kept.{pair-back}
 use Rattle.component_table.proofs.Taking.{fields-said, fields-fault}
