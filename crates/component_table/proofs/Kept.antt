@@ -98,7 +98,7 @@ record-said n fs said e =
     (comp_of n fs) (pair_of n fs) (cp_of n fs) said (Kind n) (comp-said n fs said) (pair-said n fs said) (cp-said n fs said) typed
 
 -- ---- the number of an interaction as it is kept
-interaction-small : (k : ℤ) → is_interaction k ≡ true → unsigned_abs k ≤ 10000000
+pub interaction-small : (k : ℤ) → is_interaction k ≡ true → unsigned_abs k ≤ 10000000
 interaction-small (pos n) e = omega (arith, leb-true n 5000 (and_parts true (nat_le n 5000) e).1)
 interaction-small (negsuc n) e = omega (arith, leb-true n 4999 (and_parts (nat_le n 4999) true e).0)
 
@@ -107,7 +107,7 @@ pub pair-back : (n : ℕ) (fs : List (List ℕ)) (first second : List ℕ) (k : 
 pair-back n fs first second k e = written-back k (interaction-small k (record-said n fs (PlainPair first second k) e))
 
 -- ---- one item more of a list that passes
-all-push : {X : Type 0} (p : X → Bool) (xs : List X) (x : X) → list_all p xs ≡ true → p x ≡ true → list_all p (xs ++ x ∷ []) ≡ true
+pub all-push : {X : Type 0} (p : X → Bool) (xs : List X) (x : X) → list_all p xs ≡ true → p x ≡ true → list_all p (xs ++ x ∷ []) ≡ true
 all-push p xs x before here = rw (list_all-append p xs (x ∷ []), before, here) refl
 
 -- ---- each record keeps it

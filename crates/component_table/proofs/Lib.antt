@@ -4,5 +4,6 @@ pub mod ByKind
 pub mod Taking
 pub mod Signed
 pub mod Kept
+pub mod Choices
 pub mod Consumed
 pub mod Reached

@@ -11,7 +11,7 @@ use Rattle.component_table.specs.declared.faults.TableFault.TheVariants.{Fields,
 use Rattle.component_table.specs.Records.{PlainRow, PlainRecord, field, comp_of, pair_of, cp_of, record_of}
 use Rattle.component_table.specs.Tables.{Held, index_in, known, is_pair, is_of, with_comp, with_pair, with_cp, with_record, with_fields}
 
-different : (a b : ℕ) → a ≢ b → (a == b) ≡ false
+pub different : (a b : ℕ) → a ≢ b → (a == b) ≡ false
 different a b other = go (a == b) refl
   where
     go : (r : Bool) → (a == b) ≡ r → (a == b) ≡ false

@@ -4,3 +4,6 @@ pub mod Rows
 pub mod Tables
 pub mod Keeping
 pub mod Views
+pub mod Choosing
+pub mod Chosens
+pub mod Picking

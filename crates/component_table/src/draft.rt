@@ -75,13 +75,7 @@ impl Draft {
     }
 
     /// Takes the interaction of two components.
-    fn take_pair(
-        &mut self,
-        n: u32,
-        first: &Name,
-        second: &Name,
-        k: i32,
-    ) -> Result<(), TableError>
+    fn take_pair(&mut self, n: u32, first: &Name, second: &Name, k: i32) -> Result<(), TableError>
         requires { length self.old.comps.items ≤ 256 }
         ensures taken { IfOk result (λ u. with_pair n (drafted self.old) (text_of first.now) (text_of second.now) k ≡ Ok (drafted self.new)) }
         ensures few { IfOk result (λ u. length self.new.comps.items ≤ 256) }

@@ -1,6 +1,6 @@
 //! What a table holds.
 
-ghost use Rattle.std.specs.Prelude.{IsTrue, map};
+ghost use Rattle.std.specs.Prelude.{◌≤◌, IsTrue, length, map};
 ghost use Rattle.std.specs.List.{list_all};
 ghost use Rattle.component_table.specs.Rows.{plain_row, is_row, is_pair_row};
 
@@ -14,6 +14,7 @@ pub struct Table {
     pub comps: Vec<Row>,
     pub pairs: Vec<PairRow>,
     pub cps: Vec<CpRow>,
+    pub ghost few: { length comps.items ≤ 256 },
     pub ghost rows: { IsTrue (list_all is_row (map plain_row comps.items)) },
     pub ghost interactions: { IsTrue (list_all is_pair_row pairs.items) },
 }

@@ -53,8 +53,7 @@ loop-record-preserved c =
     let inv = c.loop-record.invariant in
     let s = rw (c.in-Some.is, c.in-Ok.is) at ((c.next.ensures.steps inv.2 inv.0).0 inv.1) in
     let r = fields_of c.in-Ok.record in
-    let m = rows-more (λ (s : Bor (List ℕ)). Some s.now) c.loop-record.record-iterator.rdr c.next.new.self.rdr r default_config st.StartRecord (strip_bom c.args.bytes.now) inv.4 inv.6 inv.3 inv.5 inv.7 s.0 in
-    (
+    let m = rows-more (λ (s : Bor (List ℕ)). Some s.now) c.loop-record.record-iterator.rdr c.next.new.self.rdr r default_config st.StartRecord (strip_bom c.args.bytes.now) inv.4 inv.6 inv.3 inv.5 inv.7 s.0 in (
       s.0.3 ∙ inv.0,
       inl s.1,
       s.2,
@@ -88,4 +87,4 @@ pub invariant_of-result : goal.invariant_of-result
 invariant_of-result c =
     let inv = c.loop-record.invariant in
     let kept = kept-records 1 nothing (drafted c.loop-record.draft) inv.6 inv.8 kept-nothing in
-    record { rows = kept.rows; interactions = kept.interactions }
+    record { few = inv.10; rows = kept.rows; interactions = kept.interactions }
