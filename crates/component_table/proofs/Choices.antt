@@ -2,10 +2,9 @@
 use Rattle.std.proofs.Common.{◌≡◌, ◌≢◌, ℕ, zero, suc, ◌+◌, ◌-◌, ◌<◌, ◌≤◌, List, [], ◌∷◌, ◌++◌, length, get_or, drop, take, map, Bool, true, false, ◌&&◌, ◌||◌, refl, sym, ap, ◌∙◌, ℤ, pos, arith}
 use Rattle.std.specs.Prelude.{Result, Ok, Err, nat_le, nat_lt, ◌==◌, cond, int_le}
 use Rattle.std.specs.List.{list_all, sum}
-use Rattle.std.proofs.lemmas.Bool.{eq-eqb, eqb-true, eqb-false, lt-ltb, le-ltb, le-leb, and_parts}
-use Rattle.std.proofs.lemmas.List.Sums.{sum_by-append}
+use Rattle.std.proofs.lemmas.Bool.{eq-eqb, eqb-true, eqb-false, lt-ltb, le-ltb, and_parts}
 use Rattle.std.proofs.Math.Bool.{or_comm}
-use Rattle.std.proofs.lemmas.List.{drop_more, drop_all, length-append}
+use Rattle.std.proofs.lemmas.List.{drop_more, drop_all}
 use Rattle.case_types.specs.Ranges.{is_interaction, are_interactions, entry, is_critical_temperature, is_critical_pressure, is_acentric_factor}
 use Rattle.case_types.specs.declared.cases.Row.{Row}
 use Rattle.case_words.specs.Answers.{◌>>=◌}
@@ -16,9 +15,8 @@ use Rattle.component_table.specs.declared.rows.PairRow.{PairRow}
 use Rattle.component_table.specs.Records.{PlainRow}
 use Rattle.component_table.specs.Rows.{plain_row, is_row, is_pair_row}
 use Rattle.component_table.specs.Tables.{index_in, is_pair}
-use Rattle.component_table.specs.Choosing.{PlainChosen, with_part, place_for, with_names, four, no_row, row_in, first_k, interaction_of, IsLive}
+use Rattle.component_table.specs.Choosing.{PlainChosen, with_part, place_for, with_names, four, no_row, row_in, first_k, interaction_of}
 use Rattle.component_table.proofs.Taking.{different}
-use Rattle.component_table.proofs.Kept.{all-push}
 
 -- ---- one name more
 pub names-more : (i : ℕ) (comps : List PlainRow) (c : PlainChosen) (names : List (List ℕ)) (parts : List ℕ) (at : ℕ) → i < length names
@@ -174,16 +172,6 @@ parts-added (a ∷ b ∷ (c ∷ (d ∷ (e ∷ more)))) few = absurd (omega (arit
 pub parts-some : (parts : List ℕ) → 1 ≤ sum parts → 1 ≤ length parts
 parts-some [] some = absurd (omega (arith, some))
 parts-some (a ∷ parts) some = omega arith
-
--- a live name more
-pub live-more : (c : PlainChosen) (total i place part : ℕ) → IsLive c total → part ≢ 0
-    → IsLive (record { live = c.live ++ i ∷ []; places = c.places ++ place ∷ []; parts = c.parts ++ part ∷ [] }) (total + part)
-live-more c total i place part live some = record {
-  lives = simp length-append (omega (arith, live.lives));
-  as_many = simp length-append (omega (arith, live.as_many));
-  added = rw (sum_by-append (λ (x : ℕ). x) c.parts (part ∷ [])) (omega (arith, live.added));
-  positive = all-push (nat_le 1) c.parts part live.positive (le-leb 1 part (omega (arith, some)));
-}
 
 -- ---- components at places
 passes-at : {X : Type 0} (p : X → Bool) (xs : List X) (i : ℕ) (d : X) → list_all p xs ≡ true → p d ≡ true → p (get_or xs i d) ≡ true

@@ -1,6 +1,7 @@
 //! Tables and their faults, worked by hand.
 
 use super::*;
+use case_words::{FlashWords, Job, Word, name_text, read_words};
 use dec_text::DecFault;
 use std::alloc::{AllocError, Global};
 use std::process::Abort;
@@ -175,7 +176,7 @@ fn reads_each_kind_of_record(rt: HostRuntime) -> Result<(), Fail> {
         let Some(row) = table.comps.first() else {
             return Err("no component".into());
         };
-        assert_eq!(rt; case_words::name_text(&row.name), b"a".as_slice());
+        assert_eq!(rt; name_text(&row.name), b"a".as_slice());
         assert_eq!(rt; row.tc, 190_564);
         assert_eq!(rt; row.pc, 4_599_200);
         assert_eq!(rt; row.w, 114);
@@ -224,5 +225,74 @@ fn takes_256_components(rt: HostRuntime) -> Result<(), Fail> {
         fault_of(&rt, rt.alloc(), &text),
         Some(TableError::Fault(TableFault::TooMany(257)))
     );
+    Ok(())
+}
+
+/// What the words of a line ask for, parted by spaces.
+fn asked_by(alloc: Global, line: &str) -> Result<FlashWords, Fail> {
+    let mut words = Vec::new(alloc);
+    for text in line.split_whitespace() {
+        words.push(Word::new(text.as_bytes().to_vec(alloc)?))?;
+    }
+    match read_words(&words) {
+        Ok(Job::Tp(asked)) => Ok(asked),
+        Err(_) => Err("refused words".into()),
+    }
+}
+
+#[test]
+fn names_the_first_name_without_a_component(rt: HostRuntime) -> Result<(), Fail> {
+    let text = b"comp,a,300,1000000,0,\ncomp,b,300,1000000,0,\n";
+    assert!(rt; text.len() <= 4_194_304);
+    let Ok(table) = read_table(rt.alloc(), text) else {
+        return Err("refused table".into());
+    };
+    let cases: [(&str, Option<CaseFault>); 5] = [
+        ("z=1,1 names=a,z", Some(CaseFault::NoName(2))),
+        ("z=1,0 names=a,z", Some(CaseFault::NoName(2))),
+        ("z=1,1,1 names=z,a,y", Some(CaseFault::NoName(1))),
+        ("z=1 names=A", Some(CaseFault::NoName(1))),
+        ("z=1,1 names=b,a", None),
+    ];
+    for (ending, want) in cases {
+        let mut line = String::from_str(rt.alloc(), "tp T=300 P=1000000 tol=1024 budget=1 ")?;
+        line.push_str(ending)?;
+        let asked = asked_by(rt.alloc(), &line)?;
+        assert_eq!(rt; pick(&table, &asked).err(), want, "{ending}");
+    }
+    Ok(())
+}
+
+#[test]
+fn picks_the_live_components_in_the_order_of_the_names(rt: HostRuntime) -> Result<(), Fail> {
+    let text =
+        b"comp,a,300,1000000,0,\ncomp,b,400,2000000,0.1,\ncomp,c,500,3000000,-0.2,\nk,c,a,-0.05,,\nk,a,b,0.1,,\n";
+    assert!(rt; text.len() <= 4_194_304);
+    let Ok(table) = read_table(rt.alloc(), text) else {
+        return Err("refused table".into());
+    };
+    let asked = asked_by(
+        rt.alloc(),
+        "tp T=300 P=1000000 tol=1024 budget=1 z=2,0,1 names=c,b,a",
+    )?;
+    let Ok(picked) = pick(&table, &asked) else {
+        return Err("refused names".into());
+    };
+    let case = picked.case;
+    let (first, second) = (case.rows[0], case.rows[1]);
+    let interactions = case.k;
+    assert_eq!(rt; case.n, 2);
+    assert_eq!(rt; name_text(&first.name), b"c".as_slice());
+    assert_eq!(rt; first.tc, 500_000);
+    assert_eq!(rt; first.w, -2_000);
+    assert_eq!(rt; name_text(&second.name), b"a".as_slice());
+    assert_eq!(rt; interactions[0], [0, -500, 0, 0]);
+    assert_eq!(rt; interactions[1], [-500, 0, 0, 0]);
+    assert_eq!(rt; case.z, [2, 1, 0, 0]);
+    assert_eq!(rt; case.total, 3);
+    assert_eq!(rt; case.t, 300_000);
+    assert_eq!(rt; case.p, 1_000_000);
+    assert_eq!(rt; picked.live.as_slice(), [0, 2].as_slice());
+    assert_eq!(rt; picked.names.len(), 3);
     Ok(())
 }

@@ -64,8 +64,7 @@ pub returns-clause-picked : goal.returns-clause-picked
 returns-clause-picked c =
     let chosen = c.in-Ok.chosen in
     let places_is = c.four_of-places.ensures ∙ ap (λ (ps : List ℕ). four (λ k. get_or ps k 0)) c.as_slice.ensures.value in
-    let z_is = c.four_of.ensures ∙ ap (λ (ps : List ℕ). four (λ k. get_or ps k 0)) c.as_slice-2.ensures.value in
-    (
+    let z_is = c.four_of.ensures ∙ ap (λ (ps : List ℕ). four (λ k. get_or ps k 0)) c.as_slice-2.ensures.value in (
       plain_chosen chosen,
       ap (λ (rows : List Row). chosen_of (map plain_row rows) (map text_of c.args.job.now.names.items) c.args.job.now.z.items) (sym c.deref.ensures.value)
           ∙ c.in-Ok.ensures.exact,
