@@ -1,21 +1,19 @@
 -- Live names one after the other, and the interactions of their components.
-use Rattle.std.proofs.Common.{◌≡◌, ◌≢◌, ℕ, zero, suc, ◌+◌, ◌-◌, ◌<◌, ◌≤◌, List, [], ◌∷◌, ◌++◌, length, get_or, drop, take, map, Bool, true, false, ◌&&◌, ◌||◌, refl, sym, ap, ◌∙◌, ℤ, pos, arith}
-use Rattle.std.specs.Prelude.{Result, Ok, Err, nat_le, nat_lt, ◌==◌, cond, int_le}
+use Rattle.std.proofs.Common.{◌≡◌, ◌≢◌, ℕ, zero, suc, ◌+◌, ◌-◌, ◌<◌, ◌≤◌, List, [], ◌∷◌, length, get_or, drop, map, Bool, true, false, ◌&&◌, refl, sym, ap, ◌∙◌, ℤ, pos, arith}
+use Rattle.std.specs.Prelude.{Ok, Err, nat_le, nat_lt, ◌==◌, cond, int_le}
 use Rattle.std.specs.List.{list_all, sum}
 use Rattle.std.proofs.lemmas.Bool.{eq-eqb, eqb-true, eqb-false, lt-ltb, le-ltb, and_parts}
 use Rattle.std.proofs.Math.Bool.{or_comm}
 use Rattle.std.proofs.lemmas.List.{drop_more, drop_all}
 use Rattle.case_types.specs.Ranges.{is_interaction, are_interactions, entry, is_critical_temperature, is_critical_pressure, is_acentric_factor}
 use Rattle.case_types.specs.declared.cases.Row.{Row}
-use Rattle.case_words.specs.Answers.{◌>>=◌}
 use Rattle.log_laws.specs.Sums.{all_below, sum_below}
-use Rattle.component_table.specs.declared.cases.CaseFault.{CaseFault}
 use Rattle.component_table.specs.declared.cases.CaseFault.TheVariants.{NoName}
 use Rattle.component_table.specs.declared.rows.PairRow.{PairRow}
 use Rattle.component_table.specs.Records.{PlainRow}
 use Rattle.component_table.specs.Rows.{plain_row, is_row, is_pair_row}
 use Rattle.component_table.specs.Tables.{index_in, is_pair}
-use Rattle.component_table.specs.Choosing.{PlainChosen, with_part, place_for, with_names, four, no_row, row_in, first_k, interaction_of}
+use Rattle.component_table.specs.Choosing.{PlainChosen, with_part, with_names, four, no_row, row_in, first_k, interaction_of}
 use Rattle.component_table.proofs.Taking.{different}
 
 -- ---- one name more

@@ -1,6 +1,6 @@
 -- What a table keeps, record by record.
-use Rattle.std.proofs.Common.{◌≡◌, ℕ, ◌+◌, ◌≤◌, ◌^◌, List, [], ◌∷◌, ◌++◌, length, Bool, true, false, ◌&&◌, ◌||◌, refl, sym, ap, subst, ◌∙◌, ℤ, pos, arith, negsuc, to_z, of_z, w32}
-use Rattle.std.specs.Prelude.{Result, Ok, Err, ⊤, cond, codes, unsigned_abs, neg_ℤ, int_le, ◌==◌, nat_lt, nat_le}
+use Rattle.std.proofs.Common.{◌≡◌, ℕ, ◌+◌, ◌≤◌, ◌^◌, List, [], ◌∷◌, ◌++◌, length, Bool, true, false, ◌||◌, refl, sym, ap, subst, ◌∙◌, ℤ, pos, arith, negsuc, to_z, of_z, w32}
+use Rattle.std.specs.Prelude.{Result, Ok, Err, ⊤, cond, codes, unsigned_abs, ◌==◌, nat_lt, nat_le}
 use Rattle.std.specs.List.{list_all, list_any}
 use Rattle.std.specs.Str.{bytes_eq, is_utf8}
 use Rattle.std.proofs.lemmas.Bool.{and_parts, leb-true}
@@ -8,14 +8,13 @@ use Rattle.dec_text.specs.Decimals.{decimal_of, signed_decimal_of}
 use Rattle.dec_text.specs.declared.faults.DecFault.{DecFault}
 use Rattle.case_types.specs.Ranges.{is_critical_temperature, is_critical_pressure, is_acentric_factor, is_interaction}
 use Rattle.std.proofs.lemmas.List.Folds.{list_all-append}
-use Rattle.case_words.specs.Answers.{◌>>=◌, when}
-use Rattle.case_words.specs.Names.{name_of}
+use Rattle.case_words.specs.Answers.{◌>>=◌}
 use Rattle.case_words.proofs.Kept.{when_good, if_good, unless_good, same_good}
 use Rattle.component_table.specs.declared.faults.TableFault.{TableFault}
 use Rattle.component_table.specs.declared.faults.TableFault.TheVariants.{Fields, Utf8, Kind, Range, Twice, TooMany}
 use Rattle.component_table.specs.declared.rows.PairRow.{PairRow}
-use Rattle.component_table.specs.Records.{PlainRow, PlainRecord, PlainComp, PlainPair, PlainCp, field, valued, ranged, nothing_of, comp_of, pair_of, cp_of, typed_of, record_of}
-use Rattle.component_table.specs.Tables.{Held, nothing, index_in, known, is_pair, is_of, with_places, with_place, with_comp, with_pair, with_cp, with_record, with_fields, with_records, table_of}
+use Rattle.component_table.specs.Records.{PlainRow, PlainRecord, PlainComp, PlainPair, PlainCp, field, ranged, comp_of, pair_of, cp_of, typed_of, record_of}
+use Rattle.component_table.specs.Tables.{Held, nothing, index_in, known, is_pair, is_of, with_places, with_place, with_comp, with_pair, with_cp, with_record, with_fields, with_records}
 use Rattle.component_table.specs.Rows.{is_row, is_pair_row}
 use Rattle.component_table.specs.Keeping.{IsSaid, IsKept}
 use Rattle.component_table.proofs.ByKind.{name_at, tc_at, pc_at, w_at, k_at, coefficient_at, nothing_at}

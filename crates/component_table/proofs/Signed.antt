@@ -1,5 +1,5 @@
 -- Signed numbers of 32 bits, as they are kept.
-use Rattle.std.proofs.Common.{◌≡◌, ◌≤◌, ◌^◌, ℤ, List, [], ◌∷◌, arith, refl, to_z, of_z, w32}
+use Rattle.std.proofs.Common.{◌≡◌, ◌≤◌, ℤ, [], ◌∷◌, arith, refl, to_z, of_z, w32}
 use Rattle.std.specs.Prelude.{unsigned_abs}
 use Rattle.std.proofs.lemmas.Int.{to_z-of_z, fits_signed_from_abs}
 

@@ -1,11 +1,10 @@
 -- One record more, test by test.
-use Rattle.std.proofs.Common.{◌≡◌, ◌≢◌, ℕ, ◌+◌, ◌<◌, ◌≤◌, List, [], ◌∷◌, ◌++◌, length, Bool, true, false, refl, ap, sym, ◌∙◌, arith, ℤ, ◌||◌}
-use Rattle.std.specs.Prelude.{Result, Ok, Err, nat_lt, nat_le, ◌==◌, codes, unsigned_abs}
+use Rattle.std.proofs.Common.{◌≡◌, ◌≢◌, ℕ, ◌<◌, ◌≤◌, List, [], ◌∷◌, ◌++◌, length, Bool, true, false, refl, ℤ}
+use Rattle.std.specs.Prelude.{Ok, Err, nat_lt, ◌==◌, codes}
 use Rattle.std.specs.List.{list_any, list_all}
 use Rattle.std.specs.Str.{bytes_eq, is_utf8}
 use Rattle.std.proofs.lemmas.Bool.{lt-ltb, le-ltb, le-leb, lt-leb, eq-eqb, eqb-true}
 use Rattle.std.proofs.Math.Bool.{or-true}
-use Rattle.case_words.specs.Answers.{◌>>=◌}
 use Rattle.component_table.specs.declared.faults.TableFault.{TableFault}
 use Rattle.component_table.specs.declared.faults.TableFault.TheVariants.{Fields, Utf8, Kind, Twice, TooMany}
 use Rattle.component_table.specs.Records.{PlainRow, PlainRecord, field, comp_of, pair_of, cp_of, record_of}

@@ -1,5 +1,5 @@
 -- The live names of a job, their components and the interactions of those.
-use Rattle.std.specs.Prelude.{ℕ, ◌+◌, ◌-◌, ◌≡◌, IsTrue, List, [], ◌∷◌, ◌++◌, length, slice_index, slice_index_or, Bool, ◌&&◌, ◌==◌, nat_le, nat_lt, if◌then◌else◌, ℤ, pos, Result, Ok, Err}
+use Rattle.std.specs.Prelude.{ℕ, ◌+◌, ◌-◌, ◌≡◌, IsTrue, List, [], ◌∷◌, ◌++◌, length, slice_index, slice_index_or, Bool, ◌==◌, nat_le, nat_lt, if◌then◌else◌, ℤ, pos, Result, Ok}
 use Rattle.std.specs.List.{list_all, sum}
 use Rattle.case_words.specs.Answers.{◌>>=◌, when}
 use Rattle.component_table.specs.declared.cases.CaseFault.{CaseFault}

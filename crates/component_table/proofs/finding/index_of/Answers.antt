@@ -1,4 +1,4 @@
-use Rattle.std.proofs.Common.{◌≡◌, ◌≤◌, ℕ, length, map, arith, sym, ◌∙◌, true, false}
+use Rattle.std.proofs.Common.{◌≡◌, ◌≤◌, length, map, arith, sym, ◌∙◌, true, false}
 use Rattle.std.proofs.lemmas.List.{length-map}
 use Rattle.case_words.specs.Names.{text_of}
 use Rattle.component_table.specs.Tables.{has_name}

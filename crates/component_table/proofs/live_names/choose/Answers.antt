@@ -1,13 +1,12 @@
-use Rattle.std.proofs.Common.{◌≡◌, ◌≢◌, ◌∙◌, ◌∷◌, ◌+◌, ◌<◌, ◌≤◌, ℕ, List, [], length, map, get_or, drop, take, sym, ap, arith, refl}
+use Rattle.std.proofs.Common.{◌≡◌, ◌∙◌, ◌∷◌, ◌+◌, ◌<◌, ◌≤◌, ℕ, List, [], length, map, get_or, drop, take, sym, ap, arith, refl}
 use Rattle.std.specs.List.{sum}
 use Rattle.std.proofs.lemmas.List.{length-map, get_or-map, take_more, take_all}
 use Rattle.std.proofs.lemmas.List.Sums.{sum_by-take-le, sum_by-append}
 use Rattle.case_types.specs.declared.cases.Name.{Name}
 use Rattle.case_words.specs.Names.{text_of}
-use Rattle.component_table.specs.Records.{PlainRow}
 use Rattle.component_table.specs.Rows.{plain_row}
 use Rattle.component_table.specs.Tables.{index_in}
-use Rattle.component_table.specs.Choosing.{PlainChosen, with_part, with_names, none_chosen, IsLive}
+use Rattle.component_table.specs.Choosing.{PlainChosen, with_part, with_names}
 use Rattle.component_table.specs.Chosens.{plain_chosen}
 use Rattle.component_table.proofs.Choices.{names-more, names-stop, names-end}
 use Rattle.component_table.proofs.live_names.choose.Goals as goal

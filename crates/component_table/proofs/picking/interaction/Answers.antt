@@ -1,8 +1,7 @@
-use Rattle.std.proofs.Common.{◌≡◌, ◌∙◌, ◌<◌, ◌≤◌, ℕ, pos, sym, ap, length, get_or, arith, true, false}
-use Rattle.std.specs.Prelude.{unsigned_abs}
+use Rattle.std.proofs.Common.{◌∙◌, pos, sym, get_or}
 use Rattle.component_table.specs.declared.rows.PairRow.{PairRow}
 use Rattle.component_table.specs.Tables.{is_pair}
-use Rattle.component_table.specs.Choosing.{interaction_of, first_k}
+use Rattle.component_table.specs.Choosing.{interaction_of}
 use Rattle.component_table.proofs.Signed.{written-back}
 use Rattle.component_table.proofs.Kept.{interaction-small}
 use Rattle.component_table.proofs.Choices.{k-here, k-more, k-end, of-two, in_range}

@@ -1,6 +1,6 @@
-use Rattle.std.proofs.Common.{◌≡◌, ◌∙◌, ◌+◌, ◌<◌, ◌≤◌, ℕ, List, [], length, map, get_or, sym, ap, arith, refl, Ok, Err, true, pos}
+use Rattle.std.proofs.Common.{◌≡◌, ◌∙◌, ◌≤◌, ℕ, List, length, map, get_or, sym, ap, arith, refl, true}
 use Rattle.std.specs.Prelude.{nat_le}
-use Rattle.std.specs.List.{sum, list_all}
+use Rattle.std.specs.List.{list_all}
 use Rattle.log_laws.specs.Sums.{all_below, sum_below}
 use Rattle.case_types.specs.Ranges.{are_interactions}
 use Rattle.case_types.specs.declared.cases.Row.{Row}
@@ -8,7 +8,7 @@ use Rattle.case_words.specs.Names.{text_of}
 use Rattle.component_table.specs.declared.rows.PairRow.{PairRow}
 use Rattle.component_table.specs.Records.{PlainRow}
 use Rattle.component_table.specs.Rows.{plain_row, is_row, is_pair_row}
-use Rattle.component_table.specs.Choosing.{PlainChosen, chosen_of, four, row_in, interaction_of}
+use Rattle.component_table.specs.Choosing.{chosen_of, four, row_in, interaction_of}
 use Rattle.component_table.specs.Chosens.{plain_chosen}
 use Rattle.component_table.proofs.Choices.{row-in_range, rows-tc, rows-pc, rows-w, in_range, turned, of-one, four-interactions, parts-live, parts-added, parts-some}
 use Rattle.component_table.proofs.picking.pick.Goals as goal

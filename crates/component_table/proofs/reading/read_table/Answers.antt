@@ -1,6 +1,5 @@
-use Rattle.std.proofs.Common.{Bor, List, ℕ, ◌≡◌, ◌∙◌, sym, refl, inl, inr, true, Some, ◌∷◌, [], arith, ◌++◌, ◌+◌, ◌<◌, ◌≤◌, length, length-append, ap, map}
+use Rattle.std.proofs.Common.{Bor, List, ℕ, ◌∙◌, sym, refl, inl, inr, Some, ◌∷◌, [], arith, ◌++◌, ◌+◌, ap}
 use Rattle.std.proofs.lemmas.List.{length_push}
-use Rattle.case_types.specs.declared.cases.Row.{Row}
 use Rattle.csv.specs.Reading.{Reached, default_config, strip_bom}
 use Rattle.csv.specs.Records.{fields_of}
 use Rattle.csv.specs.declared.parser.State.TheVariants as st

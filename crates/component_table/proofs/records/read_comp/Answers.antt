@@ -1,4 +1,4 @@
-use Rattle.std.proofs.Common.{ap, sym, ◌∙◌, Ok, Err, ℤ, List, ◌∷◌, []}
+use Rattle.std.proofs.Common.{ap, sym, ◌∙◌, Ok, Err, ℤ}
 use Rattle.std.proofs.lemmas.Result.{err_from_is_err_and}
 use Rattle.csv.specs.Records.{fields_of}
 use Rattle.case_words.specs.Names.{text_of}

@@ -1,13 +1,10 @@
-use Rattle.std.proofs.Common.{◌≡◌, ◌≢◌, ◌<◌, ◌≤◌, ◌++◌, ◌∷◌, [], ℕ, List, length, map, arith, sym, ap, ◌∙◌, true, false, Ok, Err, inl, inr, vec_len}
-use Rattle.std.proofs.lemmas.List.{map_push, length-map}
+use Rattle.std.proofs.Common.{List, map, sym, ap, ◌∙◌, Ok}
 use Rattle.case_types.specs.declared.cases.Row.{Row}
 use Rattle.case_words.specs.Names.{text_of}
-use Rattle.component_table.specs.declared.rows.PairRow.{PairRow}
 use Rattle.component_table.specs.declared.rows.CpRow.{CpRow}
-use Rattle.component_table.specs.Records.{PlainRow, PlainComp, PlainPair, PlainCp}
-use Rattle.component_table.specs.Tables.{index_in, known, is_pair, is_of}
+use Rattle.component_table.specs.Tables.{known, is_of}
 use Rattle.component_table.specs.Rows.{plain_row}
-use Rattle.component_table.specs.Views.{plain_record, drafted}
+use Rattle.component_table.specs.Views.{drafted}
 use Rattle.std.specs.List.{list_any}
 use Rattle.component_table.proofs.Taking.{cp-unknown, cp-stands, cp-taken}
 use Rattle.component_table.proofs.draft.Draft.take_cp.Goals as goal

@@ -1,14 +1,11 @@
-use Rattle.std.proofs.Common.{◌≡◌, ◌≢◌, ◌<◌, ◌≤◌, ◌++◌, ◌∷◌, [], ℕ, List, length, map, arith, sym, ap, ◌∙◌, true, false, Ok, Err, inl, inr, vec_len, ℤ, w32, to_z, of_z, refl}
+use Rattle.std.proofs.Common.{◌≡◌, ◌++◌, ◌∷◌, [], List, map, sym, ap, ◌∙◌, Ok, ℤ, w32, to_z, of_z}
 use Rattle.std.proofs.lemmas.Int.{to_z-of_z}
-use Rattle.std.proofs.lemmas.List.{map_push, length-map}
 use Rattle.case_types.specs.declared.cases.Row.{Row}
 use Rattle.case_words.specs.Names.{text_of}
 use Rattle.component_table.specs.declared.rows.PairRow.{PairRow}
-use Rattle.component_table.specs.declared.rows.CpRow.{CpRow}
-use Rattle.component_table.specs.Records.{PlainRow, PlainComp, PlainPair, PlainCp}
-use Rattle.component_table.specs.Tables.{index_in, known, is_pair, is_of}
+use Rattle.component_table.specs.Tables.{known, is_pair}
 use Rattle.component_table.specs.Rows.{plain_row}
-use Rattle.component_table.specs.Views.{plain_record, drafted}
+use Rattle.component_table.specs.Views.{drafted}
 use Rattle.std.specs.List.{list_any}
 use Rattle.component_table.proofs.draft.Draft.take_pair.Goals.{then-i-j-via-then-i-j, then-i-j-via-else-i-j+then-has_pair}
 use Rattle.component_table.proofs.Taking.{pair-unknown, pair-second_unknown, pair-same, pair-stands, pair-taken}
