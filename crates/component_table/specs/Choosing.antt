@@ -14,6 +14,7 @@ pub record PlainChosen : Type 0 where
   pub places : List ℕ
   pub parts : List ℕ
 
+-- nothing yet
 abbrev pub none_chosen : PlainChosen
 none_chosen = record { live = []; places = []; parts = [] }
 

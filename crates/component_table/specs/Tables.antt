@@ -17,6 +17,7 @@ pub record Held : Type 0 where
   pub pairs : List PairRow
   pub cps : List CpRow
 
+-- nothing yet
 abbrev pub nothing : Held
 nothing = record { comps = []; pairs = []; cps = [] }
 
