@@ -16,23 +16,23 @@ use Rattle.case_words.specs.Jobs.{Gathered, nothing, stands, is_equals, with_val
 use Rattle.case_words.specs.Keeping.{IsKept}
 
 -- ---- results that are good
-and_then_good : {A B F : Type 0} (r : Result A F) (f : A → Result B F) (y : B) → (r >>= f) ≡ Ok y → (x : A) × (r ≡ Ok x) × (f x ≡ Ok y)
+pub and_then_good : {A B F : Type 0} (r : Result A F) (f : A → Result B F) (y : B) → (r >>= f) ≡ Ok y → (x : A) × (r ≡ Ok x) × (f x ≡ Ok y)
 and_then_good (Ok x) f y e = (x, refl, e)
 and_then_good (Err fault) f y e = absurd (cc)
 
-when_good : {A F : Type 0} (b : Bool) (a x : A) (fault : F) → when b a fault ≡ Ok x → (b ≡ true) × (a ≡ x)
+pub when_good : {A F : Type 0} (b : Bool) (a x : A) (fault : F) → when b a fault ≡ Ok x → (b ≡ true) × (a ≡ x)
 when_good true a x fault e = (refl, cc)
 when_good false a x fault e = absurd (cc)
 
-if_good : {A F : Type 0} (b : Bool) (r : Result A F) (x : A) (fault : F) → cond b r (Err fault) ≡ Ok x → r ≡ Ok x
+pub if_good : {A F : Type 0} (b : Bool) (r : Result A F) (x : A) (fault : F) → cond b r (Err fault) ≡ Ok x → r ≡ Ok x
 if_good true r x fault e = e
 if_good false r x fault e = absurd (cc)
 
-unless_good : {A F : Type 0} (b : Bool) (r : Result A F) (x : A) (fault : F) → cond b (Err fault) r ≡ Ok x → r ≡ Ok x
+pub unless_good : {A F : Type 0} (b : Bool) (r : Result A F) (x : A) (fault : F) → cond b (Err fault) r ≡ Ok x → r ≡ Ok x
 unless_good true r x fault e = absurd (cc)
 unless_good false r x fault e = e
 
-same_good : {A F : Type 0} (x y : A) → ◌≡◌ {A = Result A F} (Ok x) (Ok y) → x ≡ y
+pub same_good : {A F : Type 0} (x y : A) → ◌≡◌ {A = Result A F} (Ok x) (Ok y) → x ≡ y
 same_good x y e = cc
 
 -- ---- good numbers and lists

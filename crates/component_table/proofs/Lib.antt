@@ -1,0 +1,9 @@
+pub mod Fields
+pub mod Places
+pub mod ByKind
+pub mod Taking
+pub mod Signed
+pub mod Kept
+pub mod Choices
+pub mod Consumed
+pub mod Reached

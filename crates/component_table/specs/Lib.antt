@@ -1,0 +1,9 @@
+pub mod CsvText
+pub mod Records
+pub mod Rows
+pub mod Tables
+pub mod Keeping
+pub mod Views
+pub mod Choosing
+pub mod Chosens
+pub mod Picking

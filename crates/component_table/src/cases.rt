@@ -1,0 +1,26 @@
+//! The case that the words name in a table.
+
+ghost use Rattle.std.specs.Prelude.{◌≡◌, length};
+
+use arrayvec::ArrayVec;
+use case_types::{Case, Name, ParamFault, SLOTS};
+
+/// Why a table and a job make no case.
+#[derive(Clone, Copy, Debug, PartialEq, Eq)]
+pub enum CaseFault {
+    /// The name at this place of the job's list, from 1, has no component.
+    NoName(u8),
+    /// The parameters of the case break a range.
+    Param(ParamFault),
+}
+
+/// A case, and what its components are called.
+#[derive(Drop)]
+pub struct Picked {
+    pub case: Case,
+    /// The names of the job, also those with no part of the feed.
+    pub names: ArrayVec<Name, SLOTS>,
+    /// Where the components of the case stand among the names, from 0.
+    pub live: ArrayVec<u8, SLOTS>,
+    pub ghost as_many: { length live.items ≡ case.n },
+}
