@@ -13,129 +13,131 @@ fn fault_of(rt: &impl Abort, alloc: Global, text: &[u8]) -> Option<TableError> {
     read_table(alloc, text).err()
 }
 
+/// A table and its first fault.
+const REFUSED: [(&str, TableFault); 40] = [
+    ("", TableFault::Fields(1)),
+    ("\n\n", TableFault::Fields(1)),
+    ("mix,a,1,1,1,,7", TableFault::Fields(1)),
+    ("comp,a,300,1000000,0", TableFault::Fields(1)),
+    ("comp,a,300,1000000,0,\n\nk,a", TableFault::Fields(2)),
+    ("mix,a,1,1,1,", TableFault::Kind(1)),
+    ("Comp,a,300,1000000,0,", TableFault::Kind(1)),
+    (
+        "comp,,300,1000000,0,",
+        TableFault::Number(1, 2, DecFault::Empty),
+    ),
+    (
+        "comp,a.b,300,1000000,0,",
+        TableFault::Number(1, 2, DecFault::Digit),
+    ),
+    (
+        "comp,abcdefghijklmnopq,300,1000000,0,",
+        TableFault::Number(1, 2, DecFault::Digit),
+    ),
+    (
+        "comp,a,,1000000,0,",
+        TableFault::Number(1, 3, DecFault::Empty),
+    ),
+    (
+        "comp,a,-300,1000000,0,",
+        TableFault::Number(1, 3, DecFault::Sign),
+    ),
+    (
+        "comp,a,300.0001,1000000,0,",
+        TableFault::Number(1, 3, DecFault::Places),
+    ),
+    ("comp,a,4.999,x,0,", TableFault::Range(1, 3)),
+    ("comp,a,1500.001,1000000,0,", TableFault::Range(1, 3)),
+    (
+        "comp,a,9999999999999,1000000,0,",
+        TableFault::Number(1, 3, DecFault::TooLarge),
+    ),
+    ("comp,a,300,0,0,", TableFault::Range(1, 4)),
+    (
+        "comp,a,300,1000000.5,0,",
+        TableFault::Number(1, 4, DecFault::Places),
+    ),
+    ("comp,a,300,50000001,0,", TableFault::Range(1, 4)),
+    (
+        "comp,a,300,1000000,0.01142,",
+        TableFault::Number(1, 5, DecFault::Places),
+    ),
+    ("comp,a,300,1000000,-0.5001,", TableFault::Range(1, 5)),
+    ("comp,a,300,1000000,1.5001,x", TableFault::Range(1, 5)),
+    (
+        "comp,a,300,1000000,0,x",
+        TableFault::Number(1, 6, DecFault::Digit),
+    ),
+    (
+        "comp,a,300,1000000,0,\ncomp,a,300,1000000,0,",
+        TableFault::Twice(2),
+    ),
+    (
+        "comp,a,300,1000000,0,\ncomp,a,300,1,0,",
+        TableFault::Range(2, 4),
+    ),
+    (
+        "comp,a,300,1000000,0,\nk,a,b,0.1,,",
+        TableFault::UnknownName(2),
+    ),
+    (
+        "comp,a,300,1000000,0,\nk,b,a,0.1,,",
+        TableFault::UnknownName(2),
+    ),
+    (
+        "comp,a,300,1000000,0,\nk,b,b,0.1,,",
+        TableFault::UnknownName(2),
+    ),
+    ("comp,a,300,1000000,0,\nk,a,a,0.1,,", TableFault::Twice(2)),
+    (
+        "comp,a,300,1000000,0,\nk,a,a,0.6,,",
+        TableFault::Range(2, 4),
+    ),
+    (
+        "comp,a,300,1000000,0,\nk,a,,0.1,,",
+        TableFault::Number(2, 3, DecFault::Empty),
+    ),
+    (
+        "comp,a,300,1000000,0,\nk,a,b,0.1,0,",
+        TableFault::Number(2, 5, DecFault::Digit),
+    ),
+    (
+        "comp,a,300,1000000,0,\nk,a,b,0.1,,0",
+        TableFault::Number(2, 6, DecFault::Digit),
+    ),
+    (
+        "comp,a,300,1000000,0,\ncomp,b,300,1000000,0,\nk,a,b,0.1,,\nk,b,a,0.1,,",
+        TableFault::Twice(4),
+    ),
+    (
+        "comp,a,300,1000000,0,\ncomp,b,300,1000000,0,\nk,a,b,0.1,,\nk,a,b,0.1,,",
+        TableFault::Twice(4),
+    ),
+    (
+        "cp,a,1,2,3,4\ncomp,a,300,1000000,0,",
+        TableFault::UnknownName(1),
+    ),
+    (
+        "comp,a,300,1000000,0,\ncp,a,1,2,3,4\ncp,a,1,2,3,4",
+        TableFault::Twice(3),
+    ),
+    (
+        "comp,a,300,1000000,0,\ncp,a,1,2,3,",
+        TableFault::Number(2, 6, DecFault::Empty),
+    ),
+    (
+        "comp,a,300,1000000,0,\ncp,a,1,-10000.001,3,x",
+        TableFault::Range(2, 4),
+    ),
+    (
+        "comp,a,300,1000000,0,\n comp,b,300,1000000,0,",
+        TableFault::Kind(2),
+    ),
+];
+
 #[test]
 fn refuses_the_first_fault(rt: HostRuntime) -> Result<(), Fail> {
-    let cases: [(&str, TableFault); 40] = [
-        ("", TableFault::Fields(1)),
-        ("\n\n", TableFault::Fields(1)),
-        ("mix,a,1,1,1,,7", TableFault::Fields(1)),
-        ("comp,a,300,1000000,0", TableFault::Fields(1)),
-        ("comp,a,300,1000000,0,\n\nk,a", TableFault::Fields(2)),
-        ("mix,a,1,1,1,", TableFault::Kind(1)),
-        ("Comp,a,300,1000000,0,", TableFault::Kind(1)),
-        (
-            "comp,,300,1000000,0,",
-            TableFault::Number(1, 2, DecFault::Empty),
-        ),
-        (
-            "comp,a.b,300,1000000,0,",
-            TableFault::Number(1, 2, DecFault::Digit),
-        ),
-        (
-            "comp,abcdefghijklmnopq,300,1000000,0,",
-            TableFault::Number(1, 2, DecFault::Digit),
-        ),
-        (
-            "comp,a,,1000000,0,",
-            TableFault::Number(1, 3, DecFault::Empty),
-        ),
-        (
-            "comp,a,-300,1000000,0,",
-            TableFault::Number(1, 3, DecFault::Sign),
-        ),
-        (
-            "comp,a,300.0001,1000000,0,",
-            TableFault::Number(1, 3, DecFault::Places),
-        ),
-        ("comp,a,4.999,x,0,", TableFault::Range(1, 3)),
-        ("comp,a,1500.001,1000000,0,", TableFault::Range(1, 3)),
-        (
-            "comp,a,9999999999999,1000000,0,",
-            TableFault::Number(1, 3, DecFault::TooLarge),
-        ),
-        ("comp,a,300,0,0,", TableFault::Range(1, 4)),
-        (
-            "comp,a,300,1000000.5,0,",
-            TableFault::Number(1, 4, DecFault::Places),
-        ),
-        ("comp,a,300,50000001,0,", TableFault::Range(1, 4)),
-        (
-            "comp,a,300,1000000,0.01142,",
-            TableFault::Number(1, 5, DecFault::Places),
-        ),
-        ("comp,a,300,1000000,-0.5001,", TableFault::Range(1, 5)),
-        ("comp,a,300,1000000,1.5001,x", TableFault::Range(1, 5)),
-        (
-            "comp,a,300,1000000,0,x",
-            TableFault::Number(1, 6, DecFault::Digit),
-        ),
-        (
-            "comp,a,300,1000000,0,\ncomp,a,300,1000000,0,",
-            TableFault::Twice(2),
-        ),
-        (
-            "comp,a,300,1000000,0,\ncomp,a,300,1,0,",
-            TableFault::Range(2, 4),
-        ),
-        (
-            "comp,a,300,1000000,0,\nk,a,b,0.1,,",
-            TableFault::UnknownName(2),
-        ),
-        (
-            "comp,a,300,1000000,0,\nk,b,a,0.1,,",
-            TableFault::UnknownName(2),
-        ),
-        (
-            "comp,a,300,1000000,0,\nk,b,b,0.1,,",
-            TableFault::UnknownName(2),
-        ),
-        ("comp,a,300,1000000,0,\nk,a,a,0.1,,", TableFault::Twice(2)),
-        (
-            "comp,a,300,1000000,0,\nk,a,a,0.6,,",
-            TableFault::Range(2, 4),
-        ),
-        (
-            "comp,a,300,1000000,0,\nk,a,,0.1,,",
-            TableFault::Number(2, 3, DecFault::Empty),
-        ),
-        (
-            "comp,a,300,1000000,0,\nk,a,b,0.1,0,",
-            TableFault::Number(2, 5, DecFault::Digit),
-        ),
-        (
-            "comp,a,300,1000000,0,\nk,a,b,0.1,,0",
-            TableFault::Number(2, 6, DecFault::Digit),
-        ),
-        (
-            "comp,a,300,1000000,0,\ncomp,b,300,1000000,0,\nk,a,b,0.1,,\nk,b,a,0.1,,",
-            TableFault::Twice(4),
-        ),
-        (
-            "comp,a,300,1000000,0,\ncomp,b,300,1000000,0,\nk,a,b,0.1,,\nk,a,b,0.1,,",
-            TableFault::Twice(4),
-        ),
-        (
-            "cp,a,1,2,3,4\ncomp,a,300,1000000,0,",
-            TableFault::UnknownName(1),
-        ),
-        (
-            "comp,a,300,1000000,0,\ncp,a,1,2,3,4\ncp,a,1,2,3,4",
-            TableFault::Twice(3),
-        ),
-        (
-            "comp,a,300,1000000,0,\ncp,a,1,2,3,",
-            TableFault::Number(2, 6, DecFault::Empty),
-        ),
-        (
-            "comp,a,300,1000000,0,\ncp,a,1,-10000.001,3,x",
-            TableFault::Range(2, 4),
-        ),
-        (
-            "comp,a,300,1000000,0,\n comp,b,300,1000000,0,",
-            TableFault::Kind(2),
-        ),
-    ];
-    for (text, want) in cases {
+    for (text, want) in REFUSED {
         assert_eq!(rt;
             fault_of(&rt, rt.alloc(), text.as_bytes()),
             Some(TableError::Fault(want)),
