@@ -3,6 +3,7 @@ pub mod Ranges
 pub mod Tables
 pub mod CaseWords
 pub mod Instances
+pub mod Printed
 pub mod Parameters
 pub mod Divisions
 pub mod Numbers

@@ -7,7 +7,7 @@ use Rattle.case_types.specs.declared.answers.Answer.{Answer}
 use Rattle.case_types.specs.Tables.{ends_at}
 use Rattle.fix_interval.specs.declared.iv.Iv.{Iv}
 use Rattle.fix_interval.specs.Interval.{ends_of}
-use Rattle.pr_params.specs.Held.{ends_in}
+use Rattle.case_types.specs.Printed.{ends_in}
 use Rattle.flash_run.specs.Pieces.{texts_below, line}
 use Rattle.flash_run.specs.ReportText.{name_text, plane_text}
 

@@ -5,7 +5,7 @@ use Rattle.case_types.specs.declared.answers.Answer.{Answer}
 use Rattle.case_types.specs.declared.answers.Outcome.{Outcome}
 use Rattle.case_types.specs.declared.answers.Outcome.TheVariants.{Closed, Spent, Grain}
 use Rattle.case_types.specs.Divisions.{Certified, division_of}
-use Rattle.pr_params.specs.Kept.{pairs_kept}
+use Rattle.case_types.specs.Printed.{enclosures_in}
 use Rattle.case_types.specs.Lawful.{IsLawful}
 use Rattle.pr_params.specs.declared.numbers.Params.{Params}
 use Rattle.io_edge.specs.Bytes.{ahead, IsSpent}
@@ -50,7 +50,7 @@ pub record IsFlash (words : List (List ℕ)) (left left' : Option (List ℕ)) (p
   pub tol_is : tol ≡ asked.tol
   pub one_phase : length a.split.phases.items ≡ 1
   -- of the printed split, energy and gap, with the printed pairs
-  pub certified : Certified p.case (pairs_kept p) (division_of a.split) a.u a.gap
+  pub certified : Certified p.case (enclosures_in p.case.n p.two p.e p.t p.q) (division_of a.split) a.u a.gap
   pub near : a.outcome ≡ Closed → a.gap ≤ℤ pos (3 * tol * 2 ^ 18)
   pub lawful : IsLawful p.case tol asked.budget a
 

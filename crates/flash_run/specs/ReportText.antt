@@ -10,7 +10,7 @@ use Rattle.case_types.specs.declared.answers.Outcome.TheVariants.{Closed, Spent,
 use Rattle.case_types.specs.Instances.{Enclosures, pair_place}
 use Rattle.case_types.specs.Tables.{ends_at}
 use Rattle.pr_params.specs.declared.numbers.Params.{Params}
-use Rattle.pr_params.specs.Held.{enclosures_in}
+use Rattle.case_types.specs.Printed.{enclosures_in}
 use Rattle.flash_run.specs.declared.ends.End.{End}
 use Rattle.flash_run.specs.declared.ends.End.TheVariants.{Unbuilt, Read, TooLong, Flash, Memory}
 use Rattle.flash_run.specs.Pieces.{texts_below, line, ends_line, thousandths_text}

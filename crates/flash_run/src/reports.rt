@@ -4,7 +4,7 @@ ghost use Rattle.std.specs.Prelude.{◌≡◌, OnOk, IfOk};
 ghost use Rattle.flash_run.specs.Ends.{IsReportable};
 ghost use Rattle.flash_run.specs.Pieces.{Adds};
 ghost use Rattle.flash_run.specs.ReportText.{report_text, flash_text, conditions_text, split_text, phases_text, phase_text, enclosures_text, plane_text};
-ghost use Rattle.pr_params.specs.Held.{enclosures_in};
+ghost use Rattle.case_types.specs.Printed.{enclosures_in};
 
 use crate::ends::End;
 use crate::texts::{

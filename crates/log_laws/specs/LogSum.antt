@@ -13,10 +13,11 @@ pub record LogSum : Type 0 where
   pub terms : List Term
   pub rest : Fraction
 
--- h times f is a whole number: p, less m
+-- h times f, or 0 where f is negative
 abbrev pub rise : ℕ → Fraction → ℕ
 rise h f = positive_part f.num * h / f.den
 
+-- h times f with its sign changed, or 0 where f is positive
 abbrev pub fall : ℕ → Fraction → ℕ
 fall h f = negative_part f.num * h / f.den
 

@@ -4,7 +4,7 @@ ghost use Rattle.std.specs.Prelude.{◌≡◌, ◌≤◌, ◌*◌, ◌^◌, pos,
 ghost use Rattle.case_types.specs.declared.answers.Outcome.TheVariants.{Closed};
 ghost use Rattle.case_types.specs.Divisions.{Certified, division_of};
 ghost use Rattle.case_types.specs.Lawful.{IsLawful};
-ghost use Rattle.pr_params.specs.Kept.{pairs_kept};
+ghost use Rattle.case_types.specs.Printed.{enclosures_in};
 
 use crate::top::flashed;
 use case_types::{Answer, Memory};
@@ -25,7 +25,8 @@ pub fn flash_tp(alloc: Global, params: &Params, tol: u32, budget: u32) -> Result
     requires tol_high { tol ≤ 1048576 }
     requires budget_low { 1 ≤ budget }
     requires budget_high { budget ≤ 10000000 }
-    ensures certified { IfOk result (λ a. Certified params.now.case (pairs_kept params.now) (division_of a.split) a.u a.gap) }
+    ensures certified { IfOk result (λ a. let p = params.now in
+        Certified p.case (enclosures_in p.case.n p.two p.e p.t p.q) (division_of a.split) a.u a.gap) }
     ensures near { IfOk result (λ a. a.outcome ≡ Closed → a.gap ≤ℤ pos (3 * tol * 2 ^ 18)) }
     ensures lawful { IfOk result (λ a. IsLawful params.now.case tol budget a) }
     ensures one_phase { IfOk result (λ a. length a.split.phases.items ≡ 1) }

@@ -16,7 +16,7 @@ use Rattle.case_types.specs.Faults.{fault_of}
 use Rattle.case_types.specs.Numbers.{Numbers, numbers_of, enclosures_of, lift_of, lift_up_to, fits_lifted, bare_attraction_ends}
 use Rattle.log_laws.specs.Sums.{all_below}
 use Rattle.pr_params.specs.declared.numbers.Params.{Params}
-use Rattle.pr_params.specs.Held.{ends_in}
+use Rattle.case_types.specs.Printed.{ends_in}
 use Rattle.pr_params.specs.One.{num_one, den_one, bare_one, alpha_one, covolume_one, attraction_one, ratio_one}
 use Rattle.pr_params.proofs.Components.{interaction_at_most}
 use Rattle.pr_params.proofs.Lift.{lift_up_to_is}

@@ -15,7 +15,8 @@ use Rattle.case_types.specs.declared.cases.Case.{Case}
 use Rattle.case_types.specs.CaseWords.{critical_temperature, critical_pressure, acentric_factor, interaction}
 use Rattle.case_types.specs.Numbers.{lift_of, numbers_of, enclosures_of}
 use Rattle.case_types.specs.Tables.{no_ends}
-use Rattle.pr_params.specs.Held.{ends_in, numbers_in, enclosures_in}
+use Rattle.case_types.specs.Printed.{ends_in, enclosures_in}
+use Rattle.pr_params.specs.Held.{numbers_in}
 use Rattle.pr_params.proofs.One.{numbers_one, enclosures_one}
 use Rattle.case_types.specs.Parameters.{kappa_of, cohesion_num, cohesion_den}
 use Rattle.pr_params.specs.One.{num_one, den_one, root_one, alpha_one, covolume_one, bare_one, attraction_one, ratio_one}

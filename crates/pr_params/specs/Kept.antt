@@ -1,17 +1,13 @@
--- What a `Params` keeps: numbers, printed pairs and a lift.
+-- What a `Params` keeps: numbers and a lift.
 use Rattle.std.specs.Prelude.{ℕ, ◌<◌, ◌≤◌, IsTrue, IsFalse}
 use Rattle.case_types.specs.declared.cases.Case.{Case}
-use Rattle.case_types.specs.Instances.{Enclosures}
 use Rattle.case_types.specs.Numbers.{Numbers, fits_lifted}
 use Rattle.log_laws.specs.Sums.{all_below}
 use Rattle.pr_params.specs.declared.numbers.Params.{Params}
-use Rattle.pr_params.specs.Held.{numbers_in, enclosures_in}
+use Rattle.pr_params.specs.Held.{numbers_in}
 
 abbrev pub numbers_kept : Params → Numbers
 numbers_kept p = numbers_in p.case.n p.lift p.two p.e p.m p.b p.h p.a p.rho
-
-abbrev pub pairs_kept : Params → Enclosures
-pairs_kept p = enclosures_in p.case.n p.two p.e p.t p.q
 
 -- every covolume fits, and with no greater lift up to k do they all
 pub record IsGreatestLift (c : Case) (k lift : ℕ) : Type 0 where

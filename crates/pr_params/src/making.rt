@@ -8,8 +8,8 @@ ghost use Rattle.case_types.specs.Instances.{AreRight, Instance, IsInstance};
 ghost use Rattle.case_types.specs.Numbers.{lift_of, numbers_of, enclosures_of};
 ghost use Rattle.case_types.specs.Tables.{no_ends};
 ghost use Rattle.fix_interval.specs.Interval.{ends, ends_of};
-ghost use Rattle.pr_params.specs.Held.{ends_in};
-ghost use Rattle.pr_params.specs.Kept.{pairs_kept, numbers_kept, IsGreatestLift};
+ghost use Rattle.case_types.specs.Printed.{ends_in, enclosures_in};
+ghost use Rattle.pr_params.specs.Kept.{numbers_kept, IsGreatestLift};
 ghost use Rattle.pr_params.specs.One.{num_one, den_one, root_one, alpha_one, covolume_one, bare_one, attraction_one};
 
 use crate::alphas::{alpha_root, kappa, temperature_root};
@@ -115,12 +115,12 @@ pub fn params(case: &Case) -> Result<Params, ParamFault>
     requires { case.now.n ≡ 1 }
     ensures ok { IfOk result (λ p. p.case ≡ case.now) }
     ensures err { IfErr result (λ f. fault_of case.now ≡ Some f) }
-    ensures pairs { IfOk result (λ p. pairs_kept p ≡ enclosures_of case.now) }
-    ensures right { IfOk result (λ p. AreRight case.now (pairs_kept p)) }
+    ensures pairs { IfOk result (λ p. enclosures_in p.case.n p.two p.e p.t p.q ≡ enclosures_of case.now) }
+    ensures right { IfOk result (λ p. AreRight case.now (enclosures_in p.case.n p.two p.e p.t p.q)) }
     ensures lift { IfOk result (λ p. IsGreatestLift case.now 29 p.lift) }
     ensures numbers { IfOk result (λ p. numbers_kept p ≡ numbers_of case.now) }
     ensures holds { IfOk result (λ p. (x : Instance) →
-        IsInstance case.now (pairs_kept p) x → HoldsParameters case.now (numbers_kept p) x) }
+        IsInstance case.now (enclosures_in p.case.n p.two p.e p.t p.q) x → HoldsParameters case.now (numbers_kept p) x) }
 {
     let row = only_row(case);
     let (lift, b) = lifted_covolume(case, &row)?;

@@ -3,7 +3,8 @@
 ghost use Rattle.std.specs.Prelude.{◌≡◌, None};
 ghost use Rattle.case_types.specs.Faults.{fault_of};
 ghost use Rattle.case_types.specs.Numbers.{numbers_of, enclosures_of};
-ghost use Rattle.pr_params.specs.Held.{numbers_in, enclosures_in};
+ghost use Rattle.case_types.specs.Printed.{enclosures_in};
+ghost use Rattle.pr_params.specs.Held.{numbers_in};
 
 use case_types::{Case, PAIRS, SLOTS};
 use fix_interval::Iv;

@@ -7,16 +7,18 @@ use Rattle.case_types.specs.Lawful.{IsLawful}
 use Rattle.case_types.proofs.WorkLaws.{closed_is_near}
 use Rattle.case_types.specs.Divisions.{Certified, division_of}
 use Rattle.case_types.specs.Instances.{Enclosures}
-use Rattle.pr_params.specs.Kept.{pairs_kept}
+use Rattle.case_types.specs.Printed.{enclosures_in}
 use Rattle.plane_rounds.proofs.Duality.{certified}
 use Rattle.plane_rounds.proofs.flash.flash_tp.Goals as goal
 
 pub returns-clause-certified : goal.returns-clause-certified
 returns-clause-certified c =
-    let case = c.args.params.now.case in
-    IfOk-weaker c.flashed.result (IsAnswer case c.args.tol c.args.budget) (λ (a : Answer). Certified case (pairs_kept c.args.params.now) (division_of a.split) a.u a.gap)
-    (λ a h. subst (λ (e : Enclosures). Certified case e (division_of a.split) a.u a.gap) (sym c.args.params.now.printed)
-    (certified case c.args.tol c.args.budget a c.requires.one c.args.params.now.accepted h)) c.flashed.ensures.answer
+    let p = c.args.params.now in
+    let case = p.case in
+    IfOk-weaker c.flashed.result (IsAnswer case c.args.tol c.args.budget)
+    (λ (a : Answer). Certified case (enclosures_in p.case.n p.two p.e p.t p.q) (division_of a.split) a.u a.gap)
+    (λ a h. subst (λ (e : Enclosures). Certified case e (division_of a.split) a.u a.gap) (sym p.printed)
+    (certified case c.args.tol c.args.budget a c.requires.one p.accepted h)) c.flashed.ensures.answer
 
 pub returns-clause-near : goal.returns-clause-near
 returns-clause-near c =
