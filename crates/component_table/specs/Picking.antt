@@ -1,16 +1,13 @@
 -- The case that a job names in a table, or the first name without a component.
-use Rattle.std.specs.Prelude.{◌≡◌, length, map, slice_index, Ok, Err}
+use Rattle.std.specs.Prelude.{◌≡◌, List, length, map, slice_index, Ok, Err}
 use Rattle.std.specs.List.{sum}
 use Rattle.case_types.specs.declared.cases.Case.{Case}
-use Rattle.case_words.specs.declared.jobs.FlashWords.{FlashWords}
-use Rattle.case_words.specs.Views.{asked_by}
 use Rattle.case_words.specs.Jobs.{Asked}
+use Rattle.case_words.specs.Names.{text_of}
 use Rattle.component_table.specs.declared.cases.CaseFault.{CaseFault}
 use Rattle.component_table.specs.declared.cases.Picked.{Picked}
-use Rattle.component_table.specs.declared.tables.Table.{Table}
 use Rattle.component_table.specs.Rows.{plain_row}
 use Rattle.component_table.specs.Tables.{Held}
-use Rattle.component_table.specs.Views.{held_by}
 use Rattle.component_table.specs.Choosing.{PlainChosen, chosen_of, four, row_in, interaction_of}
 
 -- the case has the chosen components with their interactions and parts, and what the job asks
@@ -24,14 +21,13 @@ pub record IsCaseOf (t : Held) (asked : Asked) (chosen : PlainChosen) (case_ : C
   pub pressure : case_.p ≡ asked.p
 
 -- the case and the live names are those of what the job names
-abbrev pub Picks : Table → FlashWords → Picked → Type 0
-Picks table job picked =
-    (chosen : PlainChosen)
-    × (chosen_of (held_by table).comps (asked_by job).names (asked_by job).z ≡ Ok chosen)
-    × IsCaseOf (held_by table) (asked_by job) chosen picked.case
-    × (picked.live.items ≡ chosen.live)
-    × (picked.names.items ≡ job.names.items)
+pub record Picks (t : Held) (asked : Asked) (picked : Picked) : Type 0 where
+  pub chosen : PlainChosen
+  pub chosen_is : chosen_of t.comps asked.names asked.z ≡ Ok chosen
+  pub case_is : IsCaseOf t asked chosen picked.case
+  pub live : picked.live.items ≡ chosen.live
+  pub names : map text_of picked.names.items ≡ asked.names
 
 -- the fault is that of the first name without a component
-abbrev pub Refuses : Table → FlashWords → CaseFault → Type 0
-Refuses table job fault = chosen_of (held_by table).comps (asked_by job).names (asked_by job).z ≡ Err fault
+abbrev pub Refuses : Held → Asked → CaseFault → Type 0
+Refuses t asked fault = chosen_of t.comps asked.names asked.z ≡ Err fault

@@ -2,7 +2,9 @@
 
 ghost use Rattle.std.specs.Prelude.{◌≡◌, ◌≤◌, IsTrue, IfOk, IfErr, map, length, slice_index, unsigned_abs};
 ghost use Rattle.std.specs.List.{list_all};
+ghost use Rattle.case_words.specs.Views.{asked_by};
 ghost use Rattle.component_table.specs.Tables.{is_pair};
+ghost use Rattle.component_table.specs.Views.{held_by};
 ghost use Rattle.component_table.specs.Rows.{plain_row, is_pair_row};
 ghost use Rattle.component_table.specs.Choosing.{four, row_in, interaction_of};
 ghost use Rattle.component_table.specs.Picking.{Picks, Refuses};
@@ -19,8 +21,8 @@ use case_words::FlashWords;
 ///
 /// The components are those with a part of the feed, in the order of the names.
 pub fn pick(table: &Table, job: &FlashWords) -> Result<Picked, CaseFault>
-    ensures picked { IfOk result (λ p. Picks table.now job.now p) }
-    ensures fault { IfErr result (λ e. Refuses table.now job.now e) }
+    ensures picked { IfOk result (λ p. Picks (held_by table.now) (asked_by job.now) p) }
+    ensures fault { IfErr result (λ e. Refuses (held_by table.now) (asked_by job.now) e) }
 {
     let chosen = match choose(&table.comps, job) {
         Ok(chosen) => chosen,

@@ -1,8 +1,11 @@
 //! The program: its words, standard input and output, and the status.
 #![tactic(auto)]
 
+mod help;
+
 use flash_run::{RunEnd, Word, run};
-use io_edge::{StdSink, StdSource};
+use help::text_for;
+use io_edge::{StdSink, StdSource, write_all};
 use std::process::ExitCode;
 use std::rt::Env;
 use std::{env, io};
@@ -23,8 +26,14 @@ fn main(rt: HostRuntime) -> ExitCode {
         // A word isn't UTF-8: the run goes on with no words, and refuses them.
         Err(_) => Vec::new(rt.alloc()),
     };
-    let mut source = StdSource::new(rt.stdin());
     let mut sink = StdSink::new(rt.stdout());
+    if let Some(text) = text_for(&words) {
+        return match write_all(&mut sink, text.as_bytes()) {
+            Ok(()) => ExitCode::from(0),
+            Err(_) => ExitCode::from(7),
+        };
+    }
+    let mut source = StdSource::new(rt.stdin());
     let RunEnd { status, end: _ } = run(rt.alloc(), &words, &mut source, &mut sink);
     ExitCode::from(status)
 }

@@ -2,4 +2,3 @@ pub mod Regroup
 pub mod Phases
 pub mod OneComponent
 pub mod Takes
-pub mod Form

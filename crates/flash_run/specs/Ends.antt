@@ -1,52 +1,131 @@
--- What an end says of its status, of its answer and of the source.
-use Rattle.std.specs.Prelude.{◌≡◌, ℕ, ◌+◌, ◌*◌, ◌^◌, ◌⊎◌, List, length, pos, ◌≤ℤ◌}
+-- What an end says of its status, of its cause and of the source.
+use Rattle.std.specs.Prelude.{◌≡◌, ⊤, ⊥, ℕ, ◌+◌, ◌*◌, ◌^◌, ◌<◌, ◌≤◌, ◌⊎◌, List, length, pos, ◌≤ℤ◌, Ok, Err, Some}
 use Rattle.std.specs.declared.option.Option.{Option}
 use Rattle.case_types.specs.declared.answers.Answer.{Answer}
 use Rattle.case_types.specs.declared.answers.Outcome.{Outcome}
 use Rattle.case_types.specs.declared.answers.Outcome.TheVariants.{Closed, Spent, Grain}
+use Rattle.case_types.specs.declared.cases.ParamFault.{ParamFault}
 use Rattle.case_types.specs.Divisions.{Certified, division_of}
-use Rattle.case_types.specs.Printed.{enclosures_in}
+use Rattle.case_types.specs.Faults.{fault_of}
 use Rattle.case_types.specs.Lawful.{IsLawful}
+use Rattle.case_types.specs.Printed.{enclosures_in}
+use Rattle.case_words.specs.Jobs.{Asked, PlainTp, job_of}
+use Rattle.component_table.specs.declared.cases.CaseFault.{CaseFault}
+use Rattle.component_table.specs.declared.cases.CaseFault.TheVariants.{Param}
+use Rattle.component_table.specs.declared.cases.Picked.{Picked}
+use Rattle.component_table.specs.declared.faults.TableFault.{TableFault}
+use Rattle.component_table.specs.CsvText.{records_of}
+use Rattle.component_table.specs.Picking.{Picks, Refuses}
+use Rattle.component_table.specs.Tables.{Held, table_of}
 use Rattle.pr_params.specs.declared.numbers.Params.{Params}
 use Rattle.io_edge.specs.Bytes.{ahead, IsSpent}
 use Rattle.io_edge.specs.Causes.{CountsFault}
 use Rattle.io_edge.specs.Reading.{TakesAtMost, TakesExactly}
-use Rattle.flash_run.specs.Form.{IsAsked, IsCaseOf}
-use Rattle.flash_run.specs.declared.asked.Asked.{Asked}
 use Rattle.flash_run.specs.declared.ends.End.{End}
-use Rattle.flash_run.specs.declared.ends.End.TheVariants.{Unbuilt, Read, TooLong, Flash, Memory}
+use Rattle.flash_run.specs.declared.ends.End.TheVariants.{Words, Read, TooLong, Table, Case, Unbuilt, Flash, Memory}
 
--- the status of a flash
+-- ---- the status
+-- of a flash
 abbrev pub status_of_outcome : Outcome → ℕ
 status_of_outcome Closed = 0
 status_of_outcome Spent = 5
 status_of_outcome (Grain cell) = 5
 
--- the status of an end, where its text is written
+-- of an end, where its text is written
 abbrev pub status_of : End → ℕ
-status_of Unbuilt = 3
+status_of (Words fault) = 2
 status_of Read = 6
 status_of TooLong = 11
+status_of (Table fault) = 3
+status_of (Case fault) = 4
+status_of Unbuilt = 3
+status_of (Flash params picked tol answer) = status_of_outcome answer.outcome
 status_of Memory = 8
-status_of (Flash params tol answer) = status_of_outcome answer.outcome
 
+-- ---- the report
 -- the case of a flash has one component
 abbrev pub IsReportable : End → Type 0
-IsReportable Unbuilt = Unit {0}
-IsReportable Read = Unit {0}
-IsReportable TooLong = Unit {0}
-IsReportable Memory = Unit {0}
-IsReportable (Flash params tol answer) = params.case.n ≡ 1
+IsReportable (Words fault) = ⊤
+IsReportable Read = ⊤
+IsReportable TooLong = ⊤
+IsReportable (Table fault) = ⊤
+IsReportable (Case fault) = ⊤
+IsReportable Unbuilt = ⊤
+IsReportable (Flash params picked tol answer) = params.case.n ≡ 1
+IsReportable Memory = ⊤
 
--- a flash of one component into one phase: the certified answer, with its list of work, of the case that the words and the
--- whole table make, at the tolerance and the budget of the words
-pub record IsFlash (words : List (List ℕ)) (left left' : Option (List ℕ)) (p : Params) (tol : ℕ) (a : Answer) : Type 0 where
-  pub asked : Asked
-  pub words_are : IsAsked words asked
-  pub table : List ℕ
-  pub taken : left ≡ ahead table left'
+-- ---- the source
+-- the most bytes of a table
+abbrev pub table_limit : ℕ
+table_limit = 4194304
+
+-- one fault of the source was counted at Read, and none where words, table or case were judged
+abbrev pub CountsRead : End → ℕ → ℕ → Type 0
+CountsRead (Words fault) faults faults' = faults' ≡ faults
+CountsRead Read faults faults' = CountsFault faults faults'
+CountsRead TooLong faults faults' = faults' ≡ faults
+CountsRead (Table fault) faults faults' = faults' ≡ faults
+CountsRead (Case fault) faults faults' = faults' ≡ faults
+CountsRead Unbuilt faults faults' = faults' ≡ faults
+CountsRead (Flash params picked tol answer) faults faults' = faults' ≡ faults
+CountsRead Memory faults faults' = (faults' ≡ faults) ⊎ CountsFault faults faults'
+
+-- these bytes, at most the limit, were all that the source had left
+pub record IsAll (left left' : Option (List ℕ)) (bytes : List ℕ) : Type 0 where
+  pub short : length bytes ≤ table_limit
+  pub taken : left ≡ ahead bytes left'
   pub ended : IsSpent left'
-  pub case : IsCaseOf asked table p.case
+
+-- the source was read to its end
+abbrev pub TakesWhole : Option (List ℕ) → Option (List ℕ) → Type 0
+TakesWhole left left' = (bytes : List ℕ) × IsAll left left' bytes
+
+-- nothing is taken where words are refused, and the whole table before it or its case are judged; the next byte past the
+-- limit was taken exactly at TooLong, and only where memory was wanting may that byte be taken elsewhere
+abbrev pub Takes : End → Option (List ℕ) → Option (List ℕ) → Type 0
+Takes (Words fault) left left' = left' ≡ left
+Takes Read left left' = TakesAtMost table_limit left left'
+Takes TooLong left left' = TakesExactly (table_limit + 1) left left'
+Takes (Table fault) left left' = TakesWhole left left'
+Takes (Case fault) left left' = TakesWhole left left'
+Takes Unbuilt left left' = TakesWhole left left'
+Takes (Flash params picked tol answer) left left' = TakesWhole left left'
+Takes Memory left left' = TakesAtMost (table_limit + 1) left left'
+
+-- ---- the cause
+-- the case of what is asked, in the table of these bytes
+pub record IsCase (asked : Asked) (bytes : List ℕ) (picked : Picked) : Type 0 where
+  pub held : Held
+  pub table : table_of (records_of bytes) ≡ Ok held
+  pub picks : Picks held asked picked
+
+-- the first name that has no component in the table of these bytes
+pub record IsRefusedName (asked : Asked) (bytes : List ℕ) (fault : CaseFault) : Type 0 where
+  pub held : Held
+  pub table : table_of (records_of bytes) ≡ Ok held
+  pub refused : Refuses held asked fault
+
+-- the range that the parameters of one live component break first
+pub record IsRefusedRange (asked : Asked) (bytes : List ℕ) (fault : CaseFault) : Type 0 where
+  pub picked : Picked
+  pub case_is : IsCase asked bytes picked
+  pub one : picked.case.n ≡ 1
+  pub range : ParamFault
+  pub is : fault ≡ Param range
+  pub refused : fault_of picked.case ≡ Some range
+
+-- more than one component has a part of the feed
+pub record IsUnbuilt (asked : Asked) (bytes : List ℕ) : Type 0 where
+  pub picked : Picked
+  pub case_is : IsCase asked bytes picked
+  pub more : 1 < picked.case.n
+
+-- a flash of one live component into one phase: the certified answer, with its list of work, at the tolerance and the budget
+-- that are asked
+pub record IsFlash (asked : Asked) (bytes : List ℕ) (p : Params) (picked : Picked) (tol : ℕ) (a : Answer) : Type 0 where
+  pub case_is : IsCase asked bytes picked
+  pub case : p.case ≡ picked.case
+  pub one : p.case.n ≡ 1
   pub tol_is : tol ≡ asked.tol
   pub one_phase : length a.split.phases.items ≡ 1
   -- of the printed split, energy and gap, with the printed pairs
@@ -54,35 +133,37 @@ pub record IsFlash (words : List (List ℕ)) (left left' : Option (List ℕ)) (p
   pub near : a.outcome ≡ Closed → a.gap ≤ℤ pos (3 * tol * 2 ^ 18)
   pub lawful : IsLawful p.case tol asked.budget a
 
--- what a flash that is reported is
-abbrev pub IsFlashed : List (List ℕ) → Option (List ℕ) → Option (List ℕ) → End → Type 0
-IsFlashed words left left' Unbuilt = Unit {0}
-IsFlashed words left left' Read = Unit {0}
-IsFlashed words left left' TooLong = Unit {0}
-IsFlashed words left left' Memory = Unit {0}
-IsFlashed words left left' (Flash params tol answer) = IsFlash words left left' params tol answer
+-- what comes of what is asked and of the bytes of a table; want of memory has no cause here
+abbrev pub Judges : Asked → List ℕ → End → Type 0
+Judges asked bytes (Words fault) = ⊥
+Judges asked bytes Read = ⊥
+Judges asked bytes TooLong = ⊥
+Judges asked bytes (Table fault) = table_of (records_of bytes) ≡ Err fault
+Judges asked bytes (Case fault) = IsRefusedName asked bytes fault ⊎ IsRefusedRange asked bytes fault
+Judges asked bytes Unbuilt = IsUnbuilt asked bytes
+Judges asked bytes (Flash params picked tol answer) = IsFlash asked bytes params picked tol answer
+Judges asked bytes Memory = ⊤
 
--- one fault of the source was counted at Read, and none where words or table were judged
-abbrev pub CountsRead : End → ℕ → ℕ → Type 0
-CountsRead Unbuilt faults faults' = faults' ≡ faults
-CountsRead Read faults faults' = CountsFault faults faults'
-CountsRead TooLong faults faults' = faults' ≡ faults
-CountsRead Memory faults faults' = (faults' ≡ faults) ⊎ CountsFault faults faults'
-CountsRead (Flash params tol answer) faults faults' = faults' ≡ faults
+-- the words ask for a flash
+pub record Asks (words : List (List ℕ)) : Type 0 where
+  pub asked : Asked
+  pub is : job_of words ≡ Ok (PlainTp asked)
 
--- the most bytes of a table
-abbrev pub table_limit : ℕ
-table_limit = 4194304
+-- what comes of words that ask for a flash and of all bytes of the source
+pub record IsJudged (words : List (List ℕ)) (left left' : Option (List ℕ)) (end : End) : Type 0 where
+  pub asked : Asked
+  pub asks : job_of words ≡ Ok (PlainTp asked)
+  pub bytes : List ℕ
+  pub all : IsAll left left' bytes
+  pub judged : Judges asked bytes end
 
--- the source was read to its end
-abbrev pub TakesWhole : Option (List ℕ) → Option (List ℕ) → Type 0
-TakesWhole left left' = TakesAtMost table_limit left left' × IsSpent left'
-
--- a case is refused or flashed at the end of the source, words already before it; the next byte past the limit was taken
--- exactly at TooLong, and only where memory was wanting may that byte be taken elsewhere
-abbrev pub Takes : End → Option (List ℕ) → Option (List ℕ) → Type 0
-Takes Unbuilt left left' = (left' ≡ left) ⊎ TakesWhole left left'
-Takes Read left left' = TakesAtMost table_limit left left'
-Takes TooLong left left' = TakesExactly (table_limit + 1) left left'
-Takes Memory left left' = TakesAtMost (table_limit + 1) left left'
-Takes (Flash params tol answer) left left' = TakesWhole left left'
+-- why a run comes to this end
+abbrev pub Comes : List (List ℕ) → Option (List ℕ) → Option (List ℕ) → End → Type 0
+Comes words left left' (Words fault) = job_of words ≡ Err fault
+Comes words left left' Read = Asks words
+Comes words left left' TooLong = Asks words
+Comes words left left' (Table fault) = IsJudged words left left' (Table fault)
+Comes words left left' (Case fault) = IsJudged words left left' (Case fault)
+Comes words left left' Unbuilt = IsJudged words left left' Unbuilt
+Comes words left left' (Flash params picked tol answer) = IsJudged words left left' (Flash params picked tol answer)
+Comes words left left' Memory = ⊤

@@ -1,5 +1,4 @@
 pub mod Pieces
+pub mod RefusalText
 pub mod ReportText
 pub mod Ends
-pub mod InRange
-pub mod Form

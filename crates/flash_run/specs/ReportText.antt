@@ -1,5 +1,6 @@
 -- The text of a report, for any number of components and of phases. Components count from 0 here.
-use Rattle.std.specs.Prelude.{ℕ, ◌+◌, ◌*◌, ◌^◌, nat_le, nat_lt, cond, pos, List, [], ◌∷◌, ◌++◌, codes, map, take, length, slice_index, slice_index_or}
+use Rattle.std.specs.Prelude.{ℕ, ◌+◌, ◌*◌, ◌^◌, ◌==◌, nat_le, nat_lt, cond, pos, List, [], ◌∷◌, ◌++◌, codes, map, length, slice_index, slice_index_or}
+use Rattle.std.specs.List.{position_or_len}
 use Rattle.std.specs.Fmt.{decimal, signed_decimal}
 use Rattle.case_types.specs.declared.cases.Case.{Case}
 use Rattle.case_types.specs.declared.cases.Row.{Row}
@@ -11,13 +12,16 @@ use Rattle.case_types.specs.Instances.{Enclosures, pair_place}
 use Rattle.case_types.specs.Tables.{ends_at}
 use Rattle.pr_params.specs.declared.numbers.Params.{Params}
 use Rattle.case_types.specs.Printed.{enclosures_in}
+use Rattle.case_words.specs.Names.{text_of}
+use Rattle.component_table.specs.declared.cases.Picked.{Picked}
 use Rattle.flash_run.specs.declared.ends.End.{End}
-use Rattle.flash_run.specs.declared.ends.End.TheVariants.{Unbuilt, Read, TooLong, Flash, Memory}
+use Rattle.flash_run.specs.declared.ends.End.TheVariants as end
 use Rattle.flash_run.specs.Pieces.{texts_below, line, ends_line, thousandths_text}
+use Rattle.flash_run.specs.RefusalText.{word_fault_text, table_fault_text, case_fault_text}
 
 -- the name of a component
 abbrev pub name_text : Case → ℕ → List ℕ
-name_text c i = slice_index_or (map (λ (r : Row). take r.name.len r.name.bytes) c.rows) i []
+name_text c i = slice_index_or (map (λ (r : Row). text_of r.name) c.rows) i []
 
 -- the first words, by the outcome
 abbrev pub outcome_text : Outcome → List ℕ
@@ -34,25 +38,33 @@ conditions_text c tol =
 abbrev pub state_text : ℕ → List ℕ
 state_text packing = cond (nat_le (2531 * 2 ^ 40) (10000 * packing)) (codes " liquid") (codes " vapour")
 
--- the parts of a component in a phase
-abbrev pub part_text : Case → List ℕ → ℕ → List ℕ
-part_text c parts i = codes "part " ++ name_text c i ++ line (codes " ") (decimal (slice_index parts i))
+-- the part of the name at an index of the words: that of its component, or 0 where it isn't live
+abbrev pub part_of : List ℕ → List ℕ → ℕ → ℕ
+part_of live parts i =
+    let at = position_or_len (λ j. j == i) live in
+    cond (nat_lt at (length live)) (slice_index parts at) 0
 
--- phase k, counting from 1, with the parts of its components
-abbrev pub phase_text : Case → ℕ → Phase → List ℕ
-phase_text c k f =
+-- the name at an index of the words and its part
+abbrev pub part_text : Picked → List ℕ → ℕ → List ℕ
+part_text picked parts i =
+    codes "part " ++ slice_index_or (map text_of picked.names.items) i []
+    ++ line (codes " ") (decimal (part_of picked.live.items parts i))
+
+-- phase k, counting from 1, with the parts of all names of the words
+abbrev pub phase_text : Picked → ℕ → Phase → List ℕ
+phase_text picked k f =
     codes "phase " ++ decimal k ++ state_text f.packing ++ line (codes " packing=") (decimal f.packing)
-    ++ texts_below c.n (part_text c f.parts)
+    ++ texts_below (length picked.names.items) (part_text picked f.parts)
 
 -- the phases, the first of which is phase k
-abbrev pub phases_text : Case → ℕ → List Phase → List ℕ
-phases_text c k [] = []
-phases_text c k (f ∷ fs) = phase_text c k f ++ phases_text c (k + 1) fs
+abbrev pub phases_text : Picked → ℕ → List Phase → List ℕ
+phases_text picked k [] = []
+phases_text picked k (f ∷ fs) = phase_text picked k f ++ phases_text picked (k + 1) fs
 
 -- the split: its sum, how many phases, and each phase
-abbrev pub split_text : Case → ℕ → List Phase → List ℕ
-split_text c sum phases =
-    codes "sum=" ++ decimal sum ++ line (codes " phases=") (decimal (length phases)) ++ phases_text c 1 phases
+abbrev pub split_text : Picked → ℕ → List Phase → List ℕ
+split_text picked sum phases =
+    codes "sum=" ++ decimal sum ++ line (codes " phases=") (decimal (length phases)) ++ phases_text picked 1 phases
 
 -- the potentials of the plane
 abbrev pub plane_text : Case → Answer → List ℕ
@@ -77,21 +89,24 @@ enclosures_text c x =
     ++ texts_below c.n (λ i. texts_below c.n (λ j. cond (nat_lt i j) (pressure_text c x i j) []))
 
 -- the whole report of a flash
-abbrev pub flash_text : Params → ℕ → Answer → List ℕ
-flash_text p tol a =
+abbrev pub flash_text : Params → Picked → ℕ → Answer → List ℕ
+flash_text p picked tol a =
     line (outcome_text a.outcome) (decimal a.units)
     ++ conditions_text p.case tol
     ++ line (codes "energy=") (signed_decimal a.u)
     ++ line (codes "gap=") (signed_decimal a.gap)
-    ++ split_text p.case a.split.sum a.split.phases.items
+    ++ split_text picked a.split.sum a.split.phases.items
     ++ plane_text p.case a
     ++ line (codes "low=") (signed_decimal a.low)
     ++ enclosures_text p.case (enclosures_in p.case.n p.two p.e p.t p.q)
 
 -- what is printed at each end
 abbrev pub report_text : End → List ℕ
-report_text Unbuilt = codes "refused unbuilt\n"
-report_text Read = codes "refused read\n"
-report_text TooLong = codes "refused long\n"
-report_text Memory = []
-report_text (Flash params tol answer) = flash_text params tol answer
+report_text (end.Words fault) = line (codes "refused words ") (word_fault_text fault)
+report_text end.Read = codes "refused read\n"
+report_text end.TooLong = codes "refused long\n"
+report_text (end.Table fault) = line (codes "refused table ") (table_fault_text fault)
+report_text (end.Case fault) = line (codes "refused case ") (case_fault_text fault)
+report_text end.Unbuilt = codes "refused unbuilt\n"
+report_text (end.Flash params picked tol answer) = flash_text params picked tol answer
+report_text end.Memory = []

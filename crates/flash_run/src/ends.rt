@@ -3,19 +3,27 @@
 ghost use Rattle.std.specs.Prelude.{◌≡◌};
 
 use case_types::{Answer, Outcome};
+use case_words::WordFault;
+use component_table::{CaseFault, Picked, TableFault};
 use pr_params::Params;
 
 /// What is printed.
 #[derive(Drop)]
 pub enum End {
-    /// Words, table or case aren't of the form that this version flashes.
-    Unbuilt,
+    /// The first fault of the words.
+    Words(WordFault),
     /// The table couldn't be read.
     Read,
     /// The table has more bytes than a table may have.
     TooLong,
-    /// The numbers of the case, the tolerance and the answer of its flash.
-    Flash(Params, u32, Answer),
+    /// The first fault of the table.
+    Table(TableFault),
+    /// The first name without a component, or the range that the parameters break first.
+    Case(CaseFault),
+    /// Words, table and names are accepted, and more than one component has a part of the feed: this version can't flash that.
+    Unbuilt,
+    /// The numbers of the case, its names, the tolerance and the answer of its flash.
+    Flash(Params, Picked, u32, Answer),
     /// Memory was wanting: nothing is printed.
     Memory,
 }
@@ -28,11 +36,13 @@ impl End {
         ensures { result ≡ status_of self.now }
     {
         match self {
-            End::Unbuilt => 3,
+            End::Words(_) => 2,
+            End::Table(_) | End::Unbuilt => 3,
+            End::Case(_) => 4,
             End::Read => 6,
-            End::TooLong => 11,
             End::Memory => 8,
-            End::Flash(_, _, answer) => match answer.outcome {
+            End::TooLong => 11,
+            End::Flash(_, _, _, answer) => match answer.outcome {
                 Outcome::Closed => 0,
                 Outcome::Spent => 5,
                 Outcome::Grain(_) => 5,

@@ -4,9 +4,8 @@
 //! status and with what it printed, an [`End`].
 #![tactic(auto)]
 
-mod asked;
 mod ends;
-mod reading;
+mod refusals;
 mod reports;
 #[cfg(test)]
 mod tests;

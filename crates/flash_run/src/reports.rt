@@ -1,16 +1,18 @@
 //! The report.
 
-ghost use Rattle.std.specs.Prelude.{◌≡◌, OnOk, IfOk};
-ghost use Rattle.flash_run.specs.Ends.{IsReportable};
-ghost use Rattle.flash_run.specs.Pieces.{Adds};
-ghost use Rattle.flash_run.specs.ReportText.{report_text, flash_text, conditions_text, split_text, phases_text, phase_text, enclosures_text, plane_text};
+ghost use Rattle.std.specs.Prelude.{◌≡◌, ◌<◌, ◌≤◌, OnOk, IfOk, length};
 ghost use Rattle.case_types.specs.Printed.{enclosures_in};
+ghost use Rattle.flash_run.specs.Ends.{IsReportable};
+ghost use Rattle.flash_run.specs.Pieces.{Adds, texts_below};
+ghost use Rattle.flash_run.specs.ReportText.{report_text, flash_text, conditions_text, split_text, phases_text, phase_text, part_text, part_of, plane_text, enclosures_text};
 
 use crate::ends::End;
+use crate::refusals::{put_case_fault, put_table_fault, put_word_fault};
 use crate::texts::{
     head_of, label_of, put_ends, put_line, put_name, put_number, put_text, put_thousandths,
 };
-use case_types::{Answer, Case, Phase, Split};
+use case_types::{Answer, Case, Phase, SLOTS, Split};
+use component_table::Picked;
 use pr_params::Params;
 use std::alloc::{AllocError, Global};
 
@@ -25,11 +27,28 @@ pub fn report(alloc: Global, end: &End) -> Result<Vec<u8>, AllocError>
 {
     let mut out = Vec::new(alloc);
     match end {
-        End::Unbuilt => put_text(&mut out, "refused unbuilt\n")?,
+        End::Words(fault) => {
+            put_text(&mut out, "refused words ")?;
+            put_word_fault(&mut out, *fault)?;
+            put_text(&mut out, "\n")?;
+        }
         End::Read => put_text(&mut out, "refused read\n")?,
         End::TooLong => put_text(&mut out, "refused long\n")?,
+        End::Table(fault) => {
+            put_text(&mut out, "refused table ")?;
+            put_table_fault(&mut out, *fault)?;
+            put_text(&mut out, "\n")?;
+        }
+        End::Case(fault) => {
+            put_text(&mut out, "refused case ")?;
+            put_case_fault(&mut out, *fault)?;
+            put_text(&mut out, "\n")?;
+        }
+        End::Unbuilt => put_text(&mut out, "refused unbuilt\n")?,
+        End::Flash(params, picked, tol, answer) => {
+            put_flash(&mut out, params, picked, *tol, answer)?
+        }
         End::Memory => {}
-        End::Flash(params, tol, answer) => put_flash(&mut out, params, *tol, answer)?,
     }
     Ok(out)
 }
@@ -38,17 +57,18 @@ pub fn report(alloc: Global, end: &End) -> Result<Vec<u8>, AllocError>
 fn put_flash(
     out: &mut Vec<u8>,
     params: &Params,
+    picked: &Picked,
     tol: u32,
     answer: &Answer,
 ) -> Result<(), AllocError>
     requires { params.now.case.n ≡ 1 }
-    ensures { OnOk result (Adds out.old.items out.new.items (flash_text params.now tol answer.now)) }
+    ensures { OnOk result (Adds out.old.items out.new.items (flash_text params.now picked.now tol answer.now)) }
 {
     put_line(out, head_of(&answer.outcome), answer.units)?;
     put_conditions(out, &params.case, tol)?;
     put_line(out, "energy=", answer.u)?;
     put_line(out, "gap=", answer.gap)?;
-    put_split(out, &params.case, &answer.split)?;
+    put_split(out, picked, &answer.split)?;
     put_plane(out, &params.case, answer)?;
     put_line(out, "low=", answer.low)?;
     put_enclosures(out, params)?;
@@ -68,41 +88,85 @@ fn put_conditions(out: &mut Vec<u8>, case: &Case, tol: u32) -> Result<(), AllocE
 }
 
 /// Appends the split.
-fn put_split(out: &mut Vec<u8>, case: &Case, split: &Split) -> Result<(), AllocError>
-    requires { case.now.n ≡ 1 }
-    ensures { OnOk result (Adds out.old.items out.new.items (split_text case.now split.now.sum split.now.phases.items)) }
+fn put_split(out: &mut Vec<u8>, picked: &Picked, split: &Split) -> Result<(), AllocError>
+    ensures { OnOk result (Adds out.old.items out.new.items (split_text picked.now split.now.sum split.now.phases.items)) }
 {
     put_text(out, "sum=")?;
     put_number(out, split.sum)?;
     put_line(out, " phases=", split.phases.len())?;
-    put_phases(out, case, split.phases.as_slice())?;
+    put_phases(out, picked, split.phases.as_slice())?;
     Ok(())
 }
 
 /// Appends the phases.
-fn put_phases(out: &mut Vec<u8>, case: &Case, phases: &[Phase]) -> Result<(), AllocError>
-    requires { case.now.n ≡ 1 }
-    ensures { OnOk result (Adds out.old.items out.new.items (phases_text case.now 1 phases.now)) }
+fn put_phases(out: &mut Vec<u8>, picked: &Picked, phases: &[Phase]) -> Result<(), AllocError>
+    ensures { OnOk result (Adds out.old.items out.new.items (phases_text picked.now 1 phases.now)) }
 {
     for (k, phase) in phases.iter().enumerate() {
-        put_phase(out, case, k + 1, phase)?;
+        put_phase(out, picked, k + 1, phase)?;
     }
     Ok(())
 }
 
-/// Appends a phase, which counts from 1, and the parts of its component.
-pub fn put_phase(out: &mut Vec<u8>, case: &Case, k: usize, phase: &Phase) -> Result<(), AllocError>
-    requires { case.now.n ≡ 1 }
-    ensures { OnOk result (Adds out.old.items out.new.items (phase_text case.now k phase.now)) }
+/// Appends a phase, which counts from 1, and the parts of all names.
+pub fn put_phase(
+    out: &mut Vec<u8>,
+    picked: &Picked,
+    k: usize,
+    phase: &Phase,
+) -> Result<(), AllocError>
+    ensures { OnOk result (Adds out.old.items out.new.items (phase_text picked.now k phase.now)) }
 {
     put_text(out, "phase ")?;
     put_number(out, k)?;
     put_text(out, label_of(phase.packing))?;
     put_line(out, " packing=", phase.packing)?;
-    put_text(out, "part ")?;
-    put_name(out, &case.rows[0].name)?;
-    put_line(out, " ", phase.parts[0])?;
+    put_parts(out, picked, &phase.parts)?;
     Ok(())
+}
+
+/// Appends the parts of all names.
+fn put_parts(
+    out: &mut Vec<u8>,
+    picked: &Picked,
+    parts: &[u128; SLOTS],
+) -> Result<(), AllocError>
+    ensures { OnOk result (Adds out.old.items out.new.items
+        (texts_below (length picked.now.names.items) (part_text picked.now parts.now))) }
+{
+    for i in 0..picked.names.len() {
+        put_part(out, picked, parts, i)?;
+    }
+    Ok(())
+}
+
+/// Appends the name at an index of the words and its part.
+fn put_part(
+    out: &mut Vec<u8>,
+    picked: &Picked,
+    parts: &[u128; SLOTS],
+    i: usize,
+) -> Result<(), AllocError>
+    requires { i < length picked.now.names.items }
+    ensures { OnOk result (Adds out.old.items out.new.items (part_text picked.now parts.now i)) }
+{
+    put_text(out, "part ")?;
+    put_name(out, &picked.names[i])?;
+    put_line(out, " ", part_of(picked.live.as_slice(), parts, i))?;
+    Ok(())
+}
+
+/// The part of the name at an index of the words: 0 where it isn't live.
+fn part_of(live: &[u8], parts: &[u128; SLOTS], i: usize) -> u128
+    requires { length live.now ≤ 4 }
+    ensures { result ≡ part_of live.now parts.now i }
+{
+    for (at, index) in live.iter().enumerate() {
+        if *index as usize == i {
+            return parts[at];
+        }
+    }
+    0
 }
 
 /// Appends the plane.

@@ -1,119 +1,240 @@
-//! Examples worked by hand, and runs whose ends fail.
+//! Whole runs: rows worked by hand, and runs whose ends fail.
 
 ghost use Rattle.std.specs.Prelude.{◌<◌};
 
 use super::*;
-use crate::reading::{read_case, read_form};
 use crate::reports::put_phase;
 use crate::texts::put_thousandths;
 use case_types::Phase;
-use case_words::read_name;
+use case_words::{Job, read_words};
+use component_table::{pick, read_table};
 use io_edge::{MemSink, MemSource};
 use std::alloc::{AllocError, Global};
 use std::test::Fail;
 
-const WORDS: [&str; 7] = [
-    "tp",
-    "T=300",
-    "P=1000000",
-    "z=1",
-    "names=a",
-    "tol=1024",
-    "budget=200000",
-];
+const WORDS: &str = "tp T=300 P=1000000 z=1 names=a tol=1024 budget=200000";
 
-const TABLE: &[u8] = b"comp,a,300,1000000,0,\n";
+const TABLE: &str = "comp,a,300,1000000,0,\n";
 
-fn words_of(alloc: Global, texts: &[&str]) -> Result<Vec<Word>, AllocError> {
+const GASES: &str = "comp,methane,190.564,4599200,0.0114,\n\
+    comp,propane,369.83,4248000,0.1523,\n\
+    comp,decane,617.7,2110000,0.4923,\n\
+    cp,methane,19.25,52.13,11.97,-11.32\n";
+
+/// The words of a text, with a blank between each two.
+fn words_of(alloc: Global, text: &str) -> Result<Vec<Word>, AllocError> {
     let mut words = Vec::new(alloc);
-    for text in texts {
-        words.push(Word::new(text.as_bytes().to_vec(alloc)?))?;
+    for part in text.as_bytes().split(|b| *b == b' ') {
+        if !part.is_empty() {
+            words.push(Word::new(part.to_vec(alloc)?))?;
+        }
     }
     Ok(words)
 }
 
+/// The status of a run whose source and sink move at most `piece` bytes at once, and the sink after it.
+fn run_in_pieces(
+    alloc: Global,
+    text: &str,
+    table: Vec<u8>,
+    piece: usize,
+    source_fails: &[u64],
+    sink_fails: &[u64],
+) -> Result<(u8, MemSink), AllocError>
+    requires { 0 < piece }
+{
+    let words = words_of(alloc, text)?;
+    let mut source = MemSource::new(table, piece, source_fails.to_vec(alloc)?);
+    let mut sink = MemSink::new(alloc, 4096, piece, sink_fails.to_vec(alloc)?)?;
+    let RunEnd { status, end: _ } = run(alloc, &words, &mut source, &mut sink);
+    Ok((status, sink))
+}
+
+/// Words, a table, the status and the report of their run.
+const REFUSED: [(&str, &str, u8, &str); 30] = [
+    // Words.
+    ("", "", 2, "refused words NoCommand\n"),
+    ("pt T=300", "", 2, "refused words NoCommand\n"),
+    ("--help", "", 2, "refused words NoCommand\n"),
+    ("tp T=300 T=300", "", 2, "refused words Twice 3\n"),
+    ("tp T=49.999", "", 2, "refused words Range 2\n"),
+    ("tp T=5x", "", 2, "refused words Value 2 Digit\n"),
+    ("tp T=+300", "", 2, "refused words Value 2 Sign\n"),
+    ("tp P=1.5", "", 2, "refused words Value 2 Places\n"),
+    ("tp names=", "", 2, "refused words Value 2 Empty\n"),
+    ("tp tol=9999999999999999", "", 2, "refused words Value 2 TooLarge\n"),
+    ("tp X=1", "", 2, "refused words Unknown 2\n"),
+    ("tp z=1,1 names=a", "", 2, "refused words Count 3\n"),
+    (
+        "tp T=300 P=1000000 z=1 names=a tol=1024",
+        "",
+        2,
+        "refused words Missing budget\n",
+    ),
+    ("tp", "", 2, "refused words Missing T\n"),
+    // Tables.
+    (WORDS, "", 3, "refused table Fields 1\n"),
+    (WORDS, "comp,a,300,1000000,0.01142,\n", 3, "refused table Number 1 5 Places\n"),
+    (WORDS, "comp,a,300,0,0,\n", 3, "refused table Range 1 4\n"),
+    (WORDS, "comp,a,300,1000000,0,\ncomp,a,300,1000000,0,\n", 3, "refused table Twice 2\n"),
+    (WORDS, "comp,a,300,1000000,0,\nk,a,b,0.1,,\n", 3, "refused table UnknownName 2\n"),
+    (WORDS, "mix,a,1,1,1,\n", 3, "refused table Kind 1\n"),
+    // Names.
+    (
+        "tp T=300 P=1000000 z=1,1 names=a,z tol=1024 budget=10",
+        TABLE,
+        4,
+        "refused case NoName 2\n",
+    ),
+    (
+        "tp T=300 P=1000000 z=1,0 names=a,z tol=1024 budget=10",
+        TABLE,
+        4,
+        "refused case NoName 2\n",
+    ),
+    // Ranges of the parameters.
+    (
+        "tp T=1200 P=1000000 z=1 names=a tol=1024 budget=10",
+        "comp,a,300,1000000,1.5,\n",
+        4,
+        "refused case MRange 1\n",
+    ),
+    (
+        "tp T=300 P=100000000 z=1 names=a tol=1024 budget=10",
+        "comp,a,300,100000,0,\n",
+        4,
+        "refused case BRange\n",
+    ),
+    (
+        "tp T=50 P=100000 z=1 names=a tol=1024 budget=10",
+        "comp,a,1500,1000000,0,\n",
+        4,
+        "refused case ARange 1 1\n",
+    ),
+    (
+        "tp T=50 P=100000 z=0,1 names=b,a tol=1024 budget=10",
+        "comp,a,1500,1000000,0,\ncomp,b,300,1000000,0,\n",
+        4,
+        "refused case ARange 1 1\n",
+    ),
+    // More than one live component.
+    (
+        "tp T=300 P=1000000 z=1,1 names=methane,decane tol=1024 budget=10",
+        GASES,
+        3,
+        "refused unbuilt\n",
+    ),
+    // The first of several faults.
+    ("tp T=5x P=0", "mix\n", 2, "refused words Value 2 Digit\n"),
+    (
+        "tp T=300 P=1000000 z=1 names=z tol=1024 budget=10",
+        "mix\n",
+        3,
+        "refused table Fields 1\n",
+    ),
+    (
+        "tp T=1200 P=1000000 z=1,1 names=a,z tol=1024 budget=10",
+        "comp,a,300,1000000,1.5,\n",
+        4,
+        "refused case NoName 2\n",
+    ),
+];
+
 #[test]
-fn reads_words_of_one_form(rt: HostRuntime) -> Result<(), Fail> {
+fn refuses_with_name_and_place(rt: HostRuntime) -> Result<(), Fail> {
     let alloc = rt.alloc();
-    // A word, the place that it is put in, and whether the words are read then.
-    let cases: [(&str, usize, bool); 24] = [
-        ("tp", 0, true),
-        ("pt", 0, false),
-        ("T=50", 1, true),
-        ("T=49", 1, false),
-        ("T=1500", 1, true),
-        ("T=1501", 1, false),
-        ("T=0300", 1, false),
-        ("T=300.0", 1, false),
-        ("T=+300", 1, false),
-        ("T=", 1, false),
-        ("300", 1, false),
-        ("P=999", 2, false),
-        ("P=100000000", 2, true),
-        ("P=1000000000", 2, false),
-        ("z=2", 3, false),
-        ("names=Az_0-9", 4, true),
-        ("names=abcdefghijklmnop", 4, true),
-        ("names=abcdefghijklmnopq", 4, false),
-        ("names=", 4, false),
-        ("names=a,b", 4, false),
-        ("tol=127", 5, false),
-        ("tol=1048576", 5, true),
-        ("budget=0", 6, false),
-        ("budget=10000000", 6, true),
-    ];
-    for (word, place, want) in cases {
-        let mut texts = WORDS;
-        assert!(rt; place < 7);
-        texts[place] = word;
-        let words = words_of(alloc, &texts)?;
-        assert_eq!(rt; read_form(&words).is_some(), want, "{word}");
+    for (words, table, want, text) in REFUSED {
+        let table = table.as_bytes().to_vec(alloc)?;
+        let (status, sink) = run_in_pieces(alloc, words, table, 10, &[], &[])?;
+        assert_eq!(rt; status, want, "{words}");
+        assert_eq!(rt; sink.held(), text.as_bytes(), "{words}");
     }
-    assert!(rt; read_form(&Vec::new(alloc)).is_none());
     Ok(())
 }
 
 #[test]
-fn reads_table_of_one_form(rt: HostRuntime) -> Result<(), Fail> {
-    let asked = read_form(&words_of(rt.alloc(), &WORDS)?).ok_or("refused")?;
-    // A table, and whether the case is read from it.
-    let cases: [(&str, bool); 13] = [
-        ("comp,a,300,1000000,0,\n", true),
-        ("comp,a,5,100000,1,\n", true),
-        ("comp,a,1500,50000000,0,\n", true),
-        ("comp,a,4,1000000,0,\n", false),
-        ("comp,a,1501,1000000,0,\n", false),
-        ("comp,a,300,99999,0,\n", false),
-        ("comp,a,300,50000001,0,\n", false),
-        ("comp,a,300,1000000,2,\n", false),
-        ("comp,b,300,1000000,0,\n", false),
-        ("comp,a,300,1000000,0,", false),
-        ("comp,a,300,1000000,0,\n\n", false),
-        ("comp,a,300,1000000,0,0\n", false),
-        ("", false),
+fn flashes_words_in_any_order_and_spelling(rt: HostRuntime) -> Result<(), Fail> {
+    let alloc = rt.alloc();
+    // The same case in other words and in other tables.
+    let cases: [(&str, &str); 5] = [
+        ("tp budget=200000 tol=1024 names=a z=1 P=1000000 T=300", TABLE),
+        ("tp T=0300.000 P=1000000.0 z=1 names=a tol=01024 budget=200000", TABLE),
+        (WORDS, "comp,a,300.000,1000000,0.0000,"),
+        (WORDS, "\"comp\",\"a\",300,1000000,-0,\"\"\r\n"),
+        (WORDS, "comp,b,400,2000000,0.1,\n\ncomp,a,300,1000000,0,\nk,b,a,0.1,,\n"),
     ];
-    for (table, want) in cases {
-        assert_eq!(rt;
-            read_case(&asked, table.as_bytes()).is_some(),
-            want,
-            "{table}"
-        );
+    let table = TABLE.as_bytes().to_vec(alloc)?;
+    let (status, want) = run_in_pieces(alloc, WORDS, table, 4096, &[], &[])?;
+    assert_eq!(rt; status, 0);
+    for (words, table) in cases {
+        let table = table.as_bytes().to_vec(alloc)?;
+        let (status, sink) = run_in_pieces(alloc, words, table, 4096, &[], &[])?;
+        assert_eq!(rt; status, 0, "{words}");
+        assert_eq!(rt; sink.held(), want.held(), "{words}");
     }
-    let case = read_case(&asked, TABLE).ok_or("refused")?;
-    let row = case.rows[0];
-    assert_eq!(rt;
-        (case.t, case.p, row.tc, row.pc, row.w),
-        (300_000, 1_000_000, 300_000, 1_000_000, 0)
-    );
-    assert_eq!(rt; Ok(row.name), read_name(b"a"));
+    Ok(())
+}
+
+/// The report of methane at 150 K and 10000 Pa before the names of its phase, and after them.
+const BEFORE_NAMES: &str = "closed units=88\nT=150.000 P=10000 tol=262144\nenergy=1595866482747\n\
+    gap=109724931857\nsum=1 phases=1\nphase 1 vapour packing=268435456\n";
+const AFTER_NAMES: &str = "plane 1595866483712\nlow=-109724932822\n\
+    two 1630477228166597776 1630477228166597777\ne 1586259924992 1586260020565\n\
+    t methane 249726707501365 249726707501366\n";
+
+#[test]
+fn prints_names_without_a_part(rt: HostRuntime) -> Result<(), Fail> {
+    let alloc = rt.alloc();
+    // Words, and the parts of the names.
+    let cases: [(&str, &str); 4] = [
+        (
+            "tp z=1 names=methane T=150 P=10000 tol=262144 budget=500000",
+            "part methane 1\n",
+        ),
+        (
+            "tp z=1,0 names=methane,decane T=150 P=10000 tol=262144 budget=500000",
+            "part methane 1\npart decane 0\n",
+        ),
+        (
+            "tp z=0,1 names=decane,methane T=150 P=10000 tol=262144 budget=500000",
+            "part decane 0\npart methane 1\n",
+        ),
+        (
+            "tp z=0,7,0 names=decane,methane,propane T=150 P=10000 tol=262144 budget=500000",
+            "part decane 0\npart methane 1\npart propane 0\n",
+        ),
+    ];
+    for (words, parts) in cases {
+        let table = GASES.as_bytes().to_vec(alloc)?;
+        let (status, sink) = run_in_pieces(alloc, words, table, 4096, &[], &[])?;
+        assert_eq!(rt; status, 0, "{words}");
+        let mut want = Vec::new(alloc);
+        want.extend_from_slice(BEFORE_NAMES.as_bytes())?;
+        want.extend_from_slice(parts.as_bytes())?;
+        want.extend_from_slice(AFTER_NAMES.as_bytes())?;
+        assert_eq!(rt; sink.held(), want.as_slice(), "{words}");
+    }
+    Ok(())
+}
+
+#[test]
+fn flashes_near_saturation(rt: HostRuntime) -> Result<(), Fail> {
+    let alloc = rt.alloc();
+    let words = "tp T=150 P=1040000 z=1 names=methane tol=65536 budget=200000";
+    let table = GASES.as_bytes().to_vec(alloc)?;
+    let (status, sink) = run_in_pieces(alloc, words, table, 4096, &[], &[])?;
+    assert_eq!(rt; status, 0);
+    assert!(rt; sink.held().starts_with(b"closed units=87\n"));
     Ok(())
 }
 
 #[test]
 fn prints_phases_and_kelvins(rt: HostRuntime) -> Result<(), Fail> {
     let alloc = rt.alloc();
-    let asked = read_form(&words_of(alloc, &WORDS)?).ok_or("refused")?;
-    let case = read_case(&asked, TABLE).ok_or("refused")?;
+    let words = words_of(alloc, "tp T=300 P=1000000 z=0,7 names=b,a tol=1024 budget=10")?;
+    let Job::Tp(job) = read_words(&words).ok().ok_or("refused")?;
+    let table = read_table(alloc, b"comp,a,300,1000000,0,\ncomp,b,400,1000000,0,\n");
+    let picked = pick(&table.ok().ok_or("refused")?, &job).ok().ok_or("refused")?;
     let mut text = Vec::new(alloc);
     put_thousandths(&mut text, 273_150)?;
     put_thousandths(&mut text, 50_009)?;
@@ -123,51 +244,31 @@ fn prints_phases_and_kelvins(rt: HostRuntime) -> Result<(), Fail> {
             parts: [7, 0, 0, 0],
             packing,
         };
-        put_phase(&mut text, &case, k, &phase)?;
+        put_phase(&mut text, &picked, k, &phase)?;
     }
-    let want = b"273.15050.009phase 1 liquid packing=278286392991\npart a 7\n\
-        phase 2 vapour packing=278286392990\npart a 7\n";
+    let want = b"273.15050.009phase 1 liquid packing=278286392991\npart b 0\npart a 7\n\
+        phase 2 vapour packing=278286392990\npart b 0\npart a 7\n";
     assert_eq!(rt; text.as_slice(), want.as_slice());
     Ok(())
-}
-
-/// The status of a run whose source and sink move at most `piece` bytes at once, and the sink after it.
-fn run_in_pieces(
-    alloc: Global,
-    texts: &[&str],
-    table: Vec<u8>,
-    piece: usize,
-    source_fails: &[u64],
-    sink_fails: &[u64],
-) -> Result<(u8, MemSink), AllocError>
-    requires { 0 < piece }
-{
-    let words = words_of(alloc, texts)?;
-    let mut source = MemSource::new(table, piece, source_fails.to_vec(alloc)?);
-    let mut sink = MemSink::new(alloc, 4096, piece, sink_fails.to_vec(alloc)?)?;
-    let RunEnd { status, end: _ } = run(alloc, &words, &mut source, &mut sink);
-    Ok((status, sink))
 }
 
 #[test]
 fn ends_with_status_and_text(rt: HostRuntime) -> Result<(), Fail> {
     let alloc = rt.alloc();
-    // The feed, the calls of the source and of the sink that fail, the status, the text, in pieces of 10 bytes.
-    let cases: [(&str, &[u64], &[u64], u8, &[u8]); 6] = [
-        ("z=2", &[], &[], 3, b"refused unbuilt\n"),
-        ("z=2", &[1], &[], 3, b"refused unbuilt\n"),
-        ("z=2", &[], &[2], 7, b"refused un"),
-        ("z=1", &[2], &[], 6, b"refused read\n"),
-        ("z=1", &[1], &[1], 7, b""),
-        ("z=1", &[], &[2], 7, b"closed uni"),
+    // A run whose words are refused reads nothing, and each text is cut where the sink fails, in pieces of 10 bytes.
+    let cases: [(&str, &[u64], &[u64], u8, &str); 6] = [
+        ("tp X=1", &[1], &[], 2, "refused words Unknown 2\n"),
+        ("tp X=1", &[], &[2], 7, "refused wo"),
+        ("tp X=1", &[], &[1], 7, ""),
+        (WORDS, &[2], &[], 6, "refused read\n"),
+        (WORDS, &[1], &[1], 7, ""),
+        (WORDS, &[], &[2], 7, "closed uni"),
     ];
-    for (feed, source_fails, sink_fails, want, text) in cases {
-        let mut texts = WORDS;
-        texts[3] = feed;
-        let table = TABLE.to_vec(alloc)?;
-        let (status, sink) = run_in_pieces(alloc, &texts, table, 10, source_fails, sink_fails)?;
+    for (words, source_fails, sink_fails, want, text) in cases {
+        let table = TABLE.as_bytes().to_vec(alloc)?;
+        let (status, sink) = run_in_pieces(alloc, words, table, 10, source_fails, sink_fails)?;
         assert_eq!(rt; status, want);
-        assert_eq!(rt; sink.held(), text);
+        assert_eq!(rt; sink.held(), text.as_bytes());
     }
     Ok(())
 }
@@ -175,11 +276,13 @@ fn ends_with_status_and_text(rt: HostRuntime) -> Result<(), Fail> {
 #[test]
 fn fails_at_each_call(rt: HostRuntime) -> Result<(), Fail> {
     let alloc = rt.alloc();
-    let (status, whole) = run_in_pieces(alloc, &WORDS, TABLE.to_vec(alloc)?, 7, &[], &[])?;
+    let table = TABLE.as_bytes().to_vec(alloc)?;
+    let (status, whole) = run_in_pieces(alloc, WORDS, table, 7, &[], &[])?;
     assert_eq!(rt; status, 0);
     // The table comes in four pieces, and then it ends.
     for call in 1..=5u64 {
-        let (status, sink) = run_in_pieces(alloc, &WORDS, TABLE.to_vec(alloc)?, 7, &[call], &[])?;
+        let table = TABLE.as_bytes().to_vec(alloc)?;
+        let (status, sink) = run_in_pieces(alloc, WORDS, table, 7, &[call], &[])?;
         assert_eq!(rt; status, 6);
         assert_eq!(rt; sink.held(), b"refused read\n".as_slice());
     }
@@ -188,7 +291,8 @@ fn fails_at_each_call(rt: HostRuntime) -> Result<(), Fail> {
         if before >= whole.held().len() {
             break;
         }
-        let (status, sink) = run_in_pieces(alloc, &WORDS, TABLE.to_vec(alloc)?, 7, &[], &[call])?;
+        let table = TABLE.as_bytes().to_vec(alloc)?;
+        let (status, sink) = run_in_pieces(alloc, WORDS, table, 7, &[], &[call])?;
         assert_eq!(rt; status, 7);
         assert_eq!(rt; sink.held(), &whole.held()[..before]);
         before += 7;
@@ -201,11 +305,11 @@ fn refuses_long_tables(rt: HostRuntime) -> Result<(), Fail> {
     let alloc = rt.alloc();
     // A table at the limit is read to its end, and one byte more is too long.
     for (length, want, text) in [
-        (4_194_304, 3, "refused unbuilt\n"),
+        (4_194_304, 3, "refused table Fields 1\n"),
         (4_194_305, 11, "refused long\n"),
     ] {
         let table = vec![in alloc; b'a'; length]?;
-        let (status, sink) = run_in_pieces(alloc, &WORDS, table, 4096, &[], &[])?;
+        let (status, sink) = run_in_pieces(alloc, WORDS, table, 4096, &[], &[])?;
         assert_eq!(rt; status, want);
         assert_eq!(rt; sink.held(), text.as_bytes());
     }

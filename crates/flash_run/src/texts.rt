@@ -1,11 +1,13 @@
 //! Pieces of text, appended one after the other.
 
-ghost use Rattle.std.specs.Prelude.{◌≡◌, ◌++◌, ◌*◌, ◌^◌, OnOk, take, nat_le};
+ghost use Rattle.std.specs.Prelude.{◌≡◌, OnOk};
+ghost use Rattle.case_words.specs.Names.{text_of};
 ghost use Rattle.flash_run.specs.Pieces.{Adds, line, ends_line, thousandths_text};
 ghost use Rattle.flash_run.specs.ReportText.{state_text, outcome_text};
 ghost use Rattle.fix_interval.specs.Interval.{ends_of};
 
 use case_types::{Name, Outcome};
+use case_words::name_text;
 use fix_interval::Iv;
 use itoa::{Buffer, Integer};
 use std::alloc::AllocError;
@@ -19,9 +21,9 @@ pub fn put_text(out: &mut Vec<u8>, text: &str) -> Result<(), AllocError>
 
 /// Appends a name.
 pub fn put_name(out: &mut Vec<u8>, name: &Name) -> Result<(), AllocError>
-    ensures { OnOk result (Adds out.old.items out.new.items (take name.now.len name.now.bytes)) }
+    ensures { OnOk result (Adds out.old.items out.new.items (text_of name.now)) }
 {
-    out.extend_from_slice(&name.bytes[..name.len as usize])
+    out.extend_from_slice(name_text(name))
 }
 
 /// Appends a number.

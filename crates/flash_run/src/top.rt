@@ -1,15 +1,16 @@
 //! The whole program, over its words, its input and its output.
 
-ghost use Rattle.std.specs.Prelude.{◌≡◌, ◌≢◌, ◌⊎◌, ◌≤◌, ◌+◌, ℕ, true};
+ghost use Rattle.std.specs.Prelude.{◌≡◌, ◌≢◌, ◌⊎◌, ◌≤◌, ◌+◌, ℕ, true, length};
+ghost use Rattle.case_words.specs.Views.{asked_by};
 ghost use Rattle.io_edge.specs.Causes.{CountsFault};
 ghost use Rattle.io_edge.specs.Writing.{WritesAll, WritesSome};
 ghost use Rattle.flash_run.specs.ReportText.{report_text};
-ghost use Rattle.flash_run.specs.Ends.{status_of, IsFlashed, CountsRead, Takes};
+ghost use Rattle.flash_run.specs.Ends.{status_of, IsReportable, CountsRead, Takes, Judges, Comes};
 
 use crate::ends::{End, RunEnd};
-use crate::reading::{read_case, read_form};
 use crate::reports::report;
-use case_words::Word;
+use case_words::{FlashWords, Job, Word, read_words};
+use component_table::{CaseFault, TableError, pick, read_table};
 use io_edge::{ReadStop, Sink, Source, read_all, write_all};
 use plane_rounds::flash_tp;
 use pr_params::params;
@@ -20,7 +21,7 @@ const LIMIT: usize = 4_194_304;
 
 /// The whole program: reads the words and the table, works, and writes the report.
 ///
-/// The order is: words, reading, table, the work, writing. Nothing is taken after a take that failed, nor put after a put
+/// The order is: words, reading, a table that is too long, its form, names, parameters, the work, writing. Nothing is taken after a take that failed, nor put after a put
 /// that failed, and the report is whole before the first byte of it is put.
 pub fn run<S: Source, K: Sink>(
     alloc: Global,
@@ -48,8 +49,8 @@ pub fn run<S: Source, K: Sink>(
     ensures takes_once { S.faults source.new ≤ S.faults source.old + 1 }
     ensures last_take { result.end ≡ End.Read → S.failed source.new ≡ true }
 
-    // What is flashed.
-    ensures answer { IsFlashed words.now.items (S.left source.old) (S.left source.new) result.end }
+    // Why this is the end: of words, table and case the first fault, or else the certified flash.
+    ensures cause { Comes words.now.items (S.left source.old) (S.left source.new) result.end }
 {
     let end = work(alloc, words, source);
     let Ok(text) = report(alloc, &end) else {
@@ -70,25 +71,45 @@ fn work<S: Source>(alloc: Global, words: &Vec<Word>, source: &mut S) -> End
     ensures takes { Takes result (S.left source.old) (S.left source.new) }
     ensures reads { CountsRead result (S.faults source.old) (S.faults source.new) }
     ensures last_take { result ≡ End.Read → S.failed source.new ≡ true }
-    ensures answer { IsFlashed words.now.items (S.left source.old) (S.left source.new) result }
+    ensures cause { Comes words.now.items (S.left source.old) (S.left source.new) result }
+    ensures reportable { IsReportable result }
 {
-    let Some(asked) = read_form(words) else {
-        return End::Unbuilt;
+    let job = match read_words(words) {
+        Ok(Job::Tp(job)) => job,
+        Err(fault) => return End::Words(fault),
     };
-    let table = match read_all(alloc, source, LIMIT) {
-        Ok(table) => table,
+    let bytes = match read_all(alloc, source, LIMIT) {
+        Ok(bytes) => bytes,
         Err(ReadStop::Failed) => return End::Read,
         Err(ReadStop::TooLong) => return End::TooLong,
         Err(ReadStop::Memory) => return End::Memory,
     };
-    let Some(case) = read_case(&asked, &table) else {
-        return End::Unbuilt;
+    judge(alloc, &job, &bytes)
+}
+
+/// What comes of a job and of the bytes of a table.
+fn judge(alloc: Global, job: &FlashWords, bytes: &[u8]) -> End
+    requires { length bytes.now ≤ 4194304 }
+    ensures { Judges (asked_by job.now) bytes.now result }
+{
+    let table = match read_table(alloc, bytes) {
+        Ok(table) => table,
+        Err(TableError::Fault(fault)) => return End::Table(fault),
+        Err(TableError::Memory) => return End::Memory,
     };
-    let Ok(params) = params(&case) else {
-        return End::Unbuilt;
+    let picked = match pick(&table, job) {
+        Ok(picked) => picked,
+        Err(fault) => return End::Case(fault),
     };
-    match flash_tp(alloc, &params, asked.tol, asked.budget) {
-        Ok(answer) => End::Flash(params, asked.tol, answer),
+    if picked.case.n != 1 {
+        return End::Unbuilt;
+    }
+    let params = match params(&picked.case) {
+        Ok(params) => params,
+        Err(fault) => return End::Case(CaseFault::Param(fault)),
+    };
+    match flash_tp(alloc, &params, job.tol, job.budget) {
+        Ok(answer) => End::Flash(params, picked, job.tol, answer),
         Err(_) => End::Memory,
     }
 }

@@ -64,11 +64,12 @@ pub returns-clause-picked : goal.returns-clause-picked
 returns-clause-picked c =
     let chosen = c.in-Ok.chosen in
     let places_is = c.four_of-places.ensures ∙ ap (λ (ps : List ℕ). four (λ k. get_or ps k 0)) c.as_slice.ensures.value in
-    let z_is = c.four_of.ensures ∙ ap (λ (ps : List ℕ). four (λ k. get_or ps k 0)) c.as_slice-2.ensures.value in (
-      plain_chosen chosen,
-      ap (λ (rows : List Row). chosen_of (map plain_row rows) (map text_of c.args.job.now.names.items) c.args.job.now.z.items) (sym c.deref.ensures.value)
-          ∙ c.in-Ok.ensures.exact,
-      record {
+    let z_is = c.four_of.ensures ∙ ap (λ (ps : List ℕ). four (λ k. get_or ps k 0)) c.as_slice-2.ensures.value in
+    record {
+      chosen = plain_chosen chosen;
+      chosen_is = ap (λ (rows : List Row). chosen_of (map plain_row rows) (map text_of c.args.job.now.names.items) c.args.job.now.z.items) (sym c.deref.ensures.value)
+          ∙ c.in-Ok.ensures.exact;
+      case_is = record {
         count = c.len.ensures.value;
         rows = c.rows_of.ensures
             ∙ ap (λ (rows : List Row). four (λ i. row_in (map plain_row rows) (get_or c.four_of-places.result i 0))) c.deref-2.ensures.value
@@ -80,7 +81,7 @@ returns-clause-picked c =
         total = c.in-Ok.ensures.total;
         temperature = refl;
         pressure = refl;
-      },
-      refl,
-      c.copy_of.ensures ∙ c.as_slice-3.ensures.value,
-    )
+      };
+      live = refl;
+      names = ap (map text_of) (c.copy_of.ensures ∙ c.as_slice-3.ensures.value);
+    }
