@@ -1,12 +1,12 @@
 -- The text of one phase more.
 use Rattle.std.proofs.Common.{◌≡◌, ℕ, ◌+◌, ◌<◌, List, [], ◌∷◌, ◌++◌, take, length, get_or, append_assoc, append-nil, ap, sym, ◌∙◌, arith, length-take}
 use Rattle.std.proofs.lemmas.List.{take_more}
-use Rattle.case_types.specs.declared.cases.Case.{Case}
+use Rattle.component_table.specs.declared.cases.Picked.{Picked}
 use Rattle.case_types.specs.declared.phases.Phase.{Phase}
 use Rattle.flash_run.specs.ReportText.{phase_text, phases_text}
 
 -- some phases and then others
-pub phases_text-append : (c : Case) (k : ℕ) (fs gs : List Phase)
+pub phases_text-append : (c : Picked) (k : ℕ) (fs gs : List Phase)
     → phases_text c k (fs ++ gs) ≡ phases_text c k fs ++ phases_text c (k + length fs) gs
 phases_text-append c k [] gs = ap (λ (j : ℕ). phases_text c j gs) (omega arith)
 phases_text-append c k (f ∷ fs) gs =
@@ -16,7 +16,7 @@ phases_text-append c k (f ∷ fs) gs =
     ∙ sym (append_assoc (phase_text c k f) (phases_text c (k + 1) fs) (phases_text c (k + length (f ∷ fs)) gs))
 
 -- the first k phases and then one more
-pub phases_text-take : (c : Case) (fs : List Phase) (k : ℕ) (d : Phase) → k < length fs
+pub phases_text-take : (c : Picked) (fs : List Phase) (k : ℕ) (d : Phase) → k < length fs
     → phases_text c 1 (take k fs) ++ phase_text c (k + 1) (get_or fs k d) ≡ phases_text c 1 (take (k + 1) fs)
 phases_text-take c fs k d below =
     let f = get_or fs k d in

@@ -1,8 +1,8 @@
 -- What an end that comes of words and of a whole table says of the source.
-use Rattle.std.proofs.Common.{◌≡◌, ⊤, ⊥, ℕ, ◌+◌, ◌≤◌, ◌⊎◌, inl, List, [], refl, sym, subst, arith, Ok}
+use Rattle.std.proofs.Common.{◌≡◌, ℕ, ◌+◌, ◌≤◌, inl, List, [], refl, sym, subst, arith}
 use Rattle.std.specs.declared.option.Option.{Option}
 use Rattle.std.specs.declared.option.Option.TheVariants.{None, Some}
-use Rattle.case_words.specs.Jobs.{Asked, PlainTp, job_of}
+use Rattle.case_words.specs.Jobs.{Asked}
 use Rattle.io_edge.specs.Bytes.{ahead}
 use Rattle.io_edge.specs.Reading.{TakesAtMost}
 use Rattle.flash_run.specs.declared.ends.End.{End}

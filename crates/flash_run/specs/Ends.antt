@@ -1,5 +1,5 @@
 -- What an end says of its status, of its cause and of the source.
-use Rattle.std.specs.Prelude.{◌≡◌, ⊤, ⊥, ℕ, ◌+◌, ◌*◌, ◌^◌, ◌<◌, ◌≤◌, ◌⊎◌, List, length, pos, ◌≤ℤ◌, Ok, Err, Some}
+use Rattle.std.specs.Prelude.{◌≡◌, ⊤, ℕ, ◌+◌, ◌*◌, ◌^◌, ◌<◌, ◌≤◌, ◌⊎◌, List, length, pos, ◌≤ℤ◌, Ok, Err, Some}
 use Rattle.std.specs.declared.option.Option.{Option}
 use Rattle.case_types.specs.declared.answers.Answer.{Answer}
 use Rattle.case_types.specs.declared.answers.Outcome.{Outcome}
@@ -13,7 +13,6 @@ use Rattle.case_words.specs.Jobs.{Asked, PlainTp, job_of}
 use Rattle.component_table.specs.declared.cases.CaseFault.{CaseFault}
 use Rattle.component_table.specs.declared.cases.CaseFault.TheVariants.{Param}
 use Rattle.component_table.specs.declared.cases.Picked.{Picked}
-use Rattle.component_table.specs.declared.faults.TableFault.{TableFault}
 use Rattle.component_table.specs.CsvText.{records_of}
 use Rattle.component_table.specs.Picking.{Picks, Refuses}
 use Rattle.component_table.specs.Tables.{Held, table_of}

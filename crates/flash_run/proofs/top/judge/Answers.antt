@@ -1,0 +1,31 @@
+use Rattle.std.proofs.Common.{◌≤◌, inr, refl, arith}
+use Rattle.component_table.specs.Views.{held_by}
+use Rattle.flash_run.proofs.top.judge.Goals as goal
+
+pub returns-then-picked-ne1 : goal.returns-then-picked-ne1
+returns-then-picked-ne1 c =
+    let picked = c.in-Ok-pick.picked in
+    let some : 1 ≤ picked.case.n = picked.case.some in
+    record {
+      picked = picked;
+      case_is = record {
+        held = held_by c.in-Ok.table;
+        table = c.in-Ok.ensures.table;
+        picks = c.in-Ok-pick.ensures.picked;
+      };
+      more = omega (arith, c.if-picked-ne1.true, some);
+    }
+
+pub returns-in-Err-params : goal.returns-in-Err-params
+returns-in-Err-params c = inr (record {
+  picked = c.in-Ok-pick.picked;
+  case_is = record {
+    held = held_by c.in-Ok.table;
+    table = c.in-Ok.ensures.table;
+    picks = c.in-Ok-pick.ensures.picked;
+  };
+  one = omega (arith, c.if-picked-ne1.false);
+  range = c.in-Err-params.fault;
+  is = refl;
+  refused = c.in-Err-params.ensures.err;
+})
