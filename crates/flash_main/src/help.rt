@@ -1,5 +1,8 @@
 //! What the program says of itself.
 
+ghost use Rattle.std.specs.Prelude.{◌≡◌, is_some};
+ghost use Rattle.flash_main.specs.Asking.{asks_of_itself};
+
 use flash_run::Word;
 
 /// How the program is used.
@@ -38,7 +41,9 @@ spent; 6 reading, 7 writing failed; 8 want of memory; 11 the table is too long.
 const VERSION: &str = "hizbruk 0.1\n";
 
 /// The text that is asked for instead of a run, by one word alone.
-pub fn text_for(words: &Vec<Word>) -> Option<&'static str> {
+pub fn text_for(words: &Vec<Word>) -> Option<&'static str>
+    ensures { is_some result ≡ asks_of_itself words.now.items }
+{
     let [word] = words.as_slice() else {
         return None;
     };
