@@ -126,11 +126,7 @@ pub fn put_phase(
 }
 
 /// Appends the parts of all names.
-fn put_parts(
-    out: &mut Vec<u8>,
-    picked: &Picked,
-    parts: &[u128; SLOTS],
-) -> Result<(), AllocError>
+fn put_parts(out: &mut Vec<u8>, picked: &Picked, parts: &[u128; SLOTS]) -> Result<(), AllocError>
     ensures { OnOk result (Adds out.old.items out.new.items
         (texts_below (length picked.now.names.items) (part_text picked.now parts.now))) }
 {

@@ -62,7 +62,12 @@ const REFUSED: [(&str, &str, u8, &str); 30] = [
     ("tp T=+300", "", 2, "refused words Value 2 Sign\n"),
     ("tp P=1.5", "", 2, "refused words Value 2 Places\n"),
     ("tp names=", "", 2, "refused words Value 2 Empty\n"),
-    ("tp tol=9999999999999999", "", 2, "refused words Value 2 TooLarge\n"),
+    (
+        "tp tol=9999999999999999",
+        "",
+        2,
+        "refused words Value 2 TooLarge\n",
+    ),
     ("tp X=1", "", 2, "refused words Unknown 2\n"),
     ("tp z=1,1 names=a", "", 2, "refused words Count 3\n"),
     (
@@ -74,10 +79,25 @@ const REFUSED: [(&str, &str, u8, &str); 30] = [
     ("tp", "", 2, "refused words Missing T\n"),
     // Tables.
     (WORDS, "", 3, "refused table Fields 1\n"),
-    (WORDS, "comp,a,300,1000000,0.01142,\n", 3, "refused table Number 1 5 Places\n"),
+    (
+        WORDS,
+        "comp,a,300,1000000,0.01142,\n",
+        3,
+        "refused table Number 1 5 Places\n",
+    ),
     (WORDS, "comp,a,300,0,0,\n", 3, "refused table Range 1 4\n"),
-    (WORDS, "comp,a,300,1000000,0,\ncomp,a,300,1000000,0,\n", 3, "refused table Twice 2\n"),
-    (WORDS, "comp,a,300,1000000,0,\nk,a,b,0.1,,\n", 3, "refused table UnknownName 2\n"),
+    (
+        WORDS,
+        "comp,a,300,1000000,0,\ncomp,a,300,1000000,0,\n",
+        3,
+        "refused table Twice 2\n",
+    ),
+    (
+        WORDS,
+        "comp,a,300,1000000,0,\nk,a,b,0.1,,\n",
+        3,
+        "refused table UnknownName 2\n",
+    ),
     (WORDS, "mix,a,1,1,1,\n", 3, "refused table Kind 1\n"),
     // Names.
     (
@@ -157,11 +177,20 @@ fn flashes_words_in_any_order_and_spelling(rt: HostRuntime) -> Result<(), Fail> 
     let alloc = rt.alloc();
     // The same case in other words and in other tables.
     let cases: [(&str, &str); 5] = [
-        ("tp budget=200000 tol=1024 names=a z=1 P=1000000 T=300", TABLE),
-        ("tp T=0300.000 P=1000000.0 z=1 names=a tol=01024 budget=200000", TABLE),
+        (
+            "tp budget=200000 tol=1024 names=a z=1 P=1000000 T=300",
+            TABLE,
+        ),
+        (
+            "tp T=0300.000 P=1000000.0 z=1 names=a tol=01024 budget=200000",
+            TABLE,
+        ),
         (WORDS, "comp,a,300.000,1000000,0.0000,"),
         (WORDS, "\"comp\",\"a\",300,1000000,-0,\"\"\r\n"),
-        (WORDS, "comp,b,400,2000000,0.1,\n\ncomp,a,300,1000000,0,\nk,b,a,0.1,,\n"),
+        (
+            WORDS,
+            "comp,b,400,2000000,0.1,\n\ncomp,a,300,1000000,0,\nk,b,a,0.1,,\n",
+        ),
     ];
     let table = TABLE.as_bytes().to_vec(alloc)?;
     let (status, want) = run_in_pieces(alloc, WORDS, table, 4096, &[], &[])?;
@@ -178,6 +207,7 @@ fn flashes_words_in_any_order_and_spelling(rt: HostRuntime) -> Result<(), Fail> 
 /// The report of methane at 150 K and 10000 Pa before the names of its phase, and after them.
 const BEFORE_NAMES: &str = "closed units=88\nT=150.000 P=10000 tol=262144\nenergy=1595866482747\n\
     gap=109724931857\nsum=1 phases=1\nphase 1 vapour packing=268435456\n";
+
 const AFTER_NAMES: &str = "plane 1595866483712\nlow=-109724932822\n\
     two 1630477228166597776 1630477228166597777\ne 1586259924992 1586260020565\n\
     t methane 249726707501365 249726707501366\n";
@@ -231,10 +261,15 @@ fn flashes_near_saturation(rt: HostRuntime) -> Result<(), Fail> {
 #[test]
 fn prints_phases_and_kelvins(rt: HostRuntime) -> Result<(), Fail> {
     let alloc = rt.alloc();
-    let words = words_of(alloc, "tp T=300 P=1000000 z=0,7 names=b,a tol=1024 budget=10")?;
+    let words = words_of(
+        alloc,
+        "tp T=300 P=1000000 z=0,7 names=b,a tol=1024 budget=10",
+    )?;
     let Job::Tp(job) = read_words(&words).ok().ok_or("refused")?;
     let table = read_table(alloc, b"comp,a,300,1000000,0,\ncomp,b,400,1000000,0,\n");
-    let picked = pick(&table.ok().ok_or("refused")?, &job).ok().ok_or("refused")?;
+    let picked = pick(&table.ok().ok_or("refused")?, &job)
+        .ok()
+        .ok_or("refused")?;
     let mut text = Vec::new(alloc);
     put_thousandths(&mut text, 273_150)?;
     put_thousandths(&mut text, 50_009)?;
