@@ -6,6 +6,7 @@
 
 mod boxes;
 mod edges;
+mod fractions;
 mod halves;
 mod midpoints;
 #[cfg(test)]
