@@ -1,5 +1,5 @@
 -- Fractions spread over the components, and the box of a cell.
-use Rattle.std.proofs.Common.{◌≡◌, ℕ, zero, suc, ◌+◌, ◌-◌, ◌*◌, ◌^◌, ◌<◌, ◌≤◌, List, [], ◌∷◌, Bool, true, false, ◌==◌, cond, IsTrue, IsFalse, inl, inr, refl, slice_index, arith}
+use Rattle.std.proofs.Common.{◌≡◌, ℕ, zero, suc, ◌+◌, ◌-◌, ◌*◌, ◌^◌, ◌≤◌, List, [], ◌∷◌, Bool, true, false, ◌==◌, cond, IsTrue, IsFalse, refl, slice_index, arith}
 use Rattle.std.specs.Prelude.{nat_lt}
 use Rattle.std.proofs.lemmas.Bool.{ltb-false}
 use Rattle.case_types.specs.Bounds.{Box, one}
@@ -32,8 +32,8 @@ pub scaled-spread : (n : ℕ) (ends : List ℕ) (sum : ℕ) →
 unfolding list_below
 scaled-spread n ends sum =
     let at : (i : ℕ) → cond (nat_lt i (n - 1)) (slice_index ends i) (cond (i == n - 1) (2 ^ 20 - sum) 0) * 2 ^ 20
-        ≡ cond (nat_lt i (n - 1)) (slice_index ends i * 2 ^ 20) (cond (i == n - 1) (one - sum * 2 ^ 20) 0) =
-        λ i. scaled_choice (nat_lt i (n - 1)) (i == n - 1) (slice_index ends i) sum in
+    ≡ cond (nat_lt i (n - 1)) (slice_index ends i * 2 ^ 20) (cond (i == n - 1) (one - sum * 2 ^ 20) 0) =
+    λ i. scaled_choice (nat_lt i (n - 1)) (i == n - 1) (slice_index ends i) sum in
     rw (at 0, at 1, at 2, at 3) refl
 
 -- ---- the middles

@@ -30,9 +30,7 @@ pub fn edge_to_halve(n: u8, cell: &Cell) -> u8
 fn is_packing_wide(n: u8, cell: &Cell) -> bool
     requires one { 1 ≤ n }
     requires four { n ≤ 4 }
-    ensures {
-        result ≡ all_below (n - 1) (λ i. nat_le (edge_length (region_of cell.now) i * 2 ^ 20) (4 * edge_length (region_of cell.now) 3))
-    }
+    ensures { result ≡ all_below (n - 1) (λ i. nat_le (edge_length (region_of cell.now) i * 2 ^ 20) (4 * edge_length (region_of cell.now) 3)) }
 {
     let limit = 4 * length_of(cell, PACKING);
     for edge in 0..n - 1 {

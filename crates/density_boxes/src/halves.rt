@@ -1,4 +1,4 @@
-//! Halving.
+//! The halves of a cell.
 
 ghost use Rattle.std.specs.Prelude.{◌≡◌, ◌≤◌, ◌<◌};
 ghost use Rattle.case_types.specs.Cells.{region_of, lower_half, upper_half, edge_length};

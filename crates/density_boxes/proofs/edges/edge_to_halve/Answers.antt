@@ -1,7 +1,5 @@
-use Rattle.std.proofs.Common.{◌≡◌, ◌-◌, ◌*◌, ◌^◌, ◌≤◌, false, refl, sym, ◌∙◌, inl, arith}
-use Rattle.std.specs.Prelude.{nat_le}
-use Rattle.case_types.specs.Cells.{region_of, edge_length, edge_to_halve as named_edge}
-use Rattle.log_laws.specs.Sums.{all_below}
+use Rattle.std.proofs.Common.{◌-◌, refl, sym, ◌∙◌, inl, arith}
+use Rattle.case_types.specs.Cells.{region_of, edge_to_halve as named_edge}
 use Rattle.density_boxes.proofs.Widest.{wide_fraction}
 use Rattle.density_boxes.proofs.edges.edge_to_halve.Goals as goal
 

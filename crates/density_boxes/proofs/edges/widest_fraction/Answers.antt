@@ -1,4 +1,4 @@
-use Rattle.std.proofs.Common.{◌≡◌, ◌+◌, ◌<◌, ◌≤◌, arith, add-one, rules, sym, ◌∙◌}
+use Rattle.std.proofs.Common.{◌<◌, ◌≤◌, arith, add-one, ◌∙◌}
 use Rattle.case_types.specs.Cells.{region_of, edge_length, widest_below}
 use Rattle.density_boxes.proofs.Widest.{widest_none, widest_next, widest_stays}
 use Rattle.density_boxes.proofs.edges.widest_fraction.Goals as goal
@@ -14,9 +14,9 @@ loop-edge-preserved c =
     let same = c.loop-edge.invariant.widest in
     elim c.if-length_of.branch [
       | then-length_of w ↦
-      let more : edge_length r (widest_below r i) < edge_length r i = rw (← same) (omega arith) in
+          let more : edge_length r (widest_below r i) < edge_length r i = rw (← same) (omega arith) in
           record { widest = rw (w.widest-is, add-one i) (widest_next r i more); edge = omega arith }
       | else-length_of w ↦
-      let less : edge_length r i ≤ edge_length r (widest_below r i) = rw (← same) (omega arith) in
+          let less : edge_length r i ≤ edge_length r (widest_below r i) = rw (← same) (omega arith) in
           record { widest = rw (w.widest-is, add-one i) (same ∙ widest_stays r i less); edge = omega arith }
     ]
