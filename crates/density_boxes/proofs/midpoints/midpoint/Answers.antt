@@ -16,7 +16,7 @@ returns-clause-value c =
     ∙ ap (λ (xs : List ℕ). spread n (slice_index xs) c.rest_of.result) three
     ∙ ap (spread n (slice_index (middles r))) (rw sum at c.rest_of.ensures)
     ∙ spread-middles n r (2 ^ 20 - middle_sum n r) c.requires.four in
-    let small : nat_lt (2 ^ 20) (middle_sum n r) ≡ false = le-ltb (2 ^ 20) (middle_sum n r) (omega (arith, sum, c.if-sum-gt-WHOLE.false)) in
+    let small : nat_lt (2 ^ 20) (middle_sum n r) ≡ false = le-ltb (2 ^ 20) (middle_sum n r) (omega (arith, sum)) in
     let some : ((c.args.cell.now.ylo + c.args.cell.now.yhi) / 2 == 0) ≡ false = grind (arith, c.if-packing-eq0.false) in
     rw (small, some, shares) refl
 
@@ -24,4 +24,4 @@ pub returns-clause-composition : goal.returns-clause-composition
 returns-clause-composition c =
     let free : List ℕ = c.middle.result ∷ c.middle-2.result ∷ c.middle-3.result ∷ [] in
     let whole = sum-spread c.args.n (slice_index free) c.rest_of.result c.requires.one c.requires.four in
-    rw c.composition.ensures (omega (arith, whole, c.free_sum-sum.ensures, c.rest_of.ensures, c.if-sum-gt-WHOLE.false))
+    rw c.composition.ensures (omega (arith, whole, c.free_sum-sum.ensures, c.rest_of.ensures))
