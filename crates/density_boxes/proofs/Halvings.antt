@@ -28,6 +28,7 @@ at_most_each : (m : ℕ) (p q : ℕ → ℕ) → ((k : ℕ) → p k ≤ q k) →
 at_most_each zero p q h = omega arith
 at_most_each (suc m) p q h = omega (arith, at_most_each m p q h, h m)
 
+-- a power below the half, doubled, is below the whole
 next_power : (k l h : ℕ) → 2 * h ≤ l + 1 → is_power_below h k ≤ is_power_below l (suc k)
 next_power k l h small =
     elim (cases_lt (2 ^ k) h) [
@@ -38,6 +39,7 @@ next_power k l h small =
       | inr more ↦ let e : nat_lt (2 ^ k) h ≡ false = le-ltb (2 ^ k) h more in rw e (omega arith)
     ]
 
+-- so the half has at most the powers of the whole, without 1
 fewer_powers : (m l h : ℕ) → 2 ≤ l → l ≤ 2 ^ m → 2 * h ≤ l + 1 → sum_below m (is_power_below h) < sum_below m (is_power_below l)
 fewer_powers m l h two top small =
     let first : is_power_below l 0 ≡ 1 = rw (lt-ltb 1 l (omega (arith, two))) refl in

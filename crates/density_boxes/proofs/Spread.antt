@@ -8,6 +8,7 @@ use Rattle.case_types.specs.Ranges.{is_each_at_most, is_each_up_to}
 use Rattle.log_laws.specs.Sums.{sum_below, list_below}
 use Rattle.density_boxes.proofs.Lists.{at_most_at, up_to_at, four_at_most, four_up_to}
 
+-- f for the free components, the rest for the last of n, and 0 for those that aren't there
 abbrev pub spread : ℕ → (ℕ → ℕ) → ℕ → List ℕ
 spread n f rest = list_below 4 (λ i. cond (nat_lt i (n - 1)) (f i) (cond (i == n - 1) rest 0))
 
@@ -58,12 +59,14 @@ spread-middles (suc (suc (suc (suc zero)))) r rest l = refl
 spread-middles (suc (suc (suc (suc (suc n))))) r rest l = absurd (omega (arith, l))
 
 -- ---- the box
+-- what a box of compositions keeps
 pub record IsBox (x : Box) : Type 0 where
   pub ordered : IsTrue (is_each_at_most 4 x.lo x.hi)
   pub inside : IsTrue (is_each_up_to 4 x.hi one)
   pub not_above : sum_below 4 (slice_index x.lo) ≤ one
   pub not_below : one ≤ sum_below 4 (slice_index x.hi)
 
+-- the lower ends add up to at most 1 where the last is clipped, since the cell doesn't miss, and where it isn't
 by_count : (n : ℕ) (r : Region) → 1 ≤ n → n ≤ 4 → slice_index r.lo 0 ≤ slice_index r.hi 0 → slice_index r.lo 1 ≤ slice_index r.hi 1 →
     slice_index r.lo 2 ≤ slice_index r.hi 2 → slice_index r.hi 0 ≤ 2 ^ 20 → slice_index r.hi 1 ≤ 2 ^ 20 → slice_index r.hi 2 ≤ 2 ^ 20 →
     free_sum n r.lo ≤ 2 ^ 20 → IsBox (box_of_region n r)

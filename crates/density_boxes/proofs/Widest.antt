@@ -17,6 +17,7 @@ pub widest_stays : (r : Region) (i : ℕ) → edge_length r i ≤ edge_length r 
 unfolding widest_below
 widest_stays r i less = rw (le-ltb (edge_length r (widest_below r i)) (edge_length r i) less) refl
 
+-- it is one of them, and none is wider
 pub widest_within : (r : Region) (m : ℕ) → widest_below r m ≤ m - 1
 widest_within r zero = rw (← widest_none r) (omega arith)
 widest_within r (suc i) =
@@ -52,6 +53,7 @@ some_fails (suc m) p h =
     first_of true b h e = absurd (let t : b ≡ false = h in cc (t, e))
     first_of false b h e = refl
 
+-- where the packing isn't named, the widest is a free fraction, of length at least 1
 pub wide_fraction : (r : Region) (m : ℕ) → 1 ≤ edge_length r 3 → all_below m (λ i. nat_le (edge_length r i * 2 ^ 20) (4 * edge_length r 3)) ≡ false →
     (widest_below r m < m) × (1 ≤ edge_length r (widest_below r m))
 wide_fraction r m thick h =

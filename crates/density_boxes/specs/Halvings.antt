@@ -3,7 +3,7 @@ use Rattle.std.specs.Prelude.{ℕ, ◌^◌, cond, nat_lt}
 use Rattle.case_types.specs.Cells.{Region, edge_length}
 use Rattle.log_laws.specs.Sums.{sum_below}
 
--- how many powers of two are below a length, which is how often it can be halved, rounded up, until it is 1
+-- how many powers of two are below a length of at most 2^40: so often it can be halved, rounded up, until it is 1
 unfoldable pub halvings_of : ℕ → ℕ
 halvings_of length = sum_below 40 (λ k. cond (nat_lt (2 ^ k) length) 1 0)
 

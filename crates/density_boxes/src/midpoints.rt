@@ -3,7 +3,7 @@
 ghost use Rattle.std.specs.Prelude.{◌≡◌, ◌≤◌, ◌<◌, ◌^◌, IfSome, slice_index};
 ghost use Rattle.std.specs.Option.{option_map};
 ghost use Rattle.case_types.specs.Cells.{region_of, midpoint as region_midpoint, middle_of};
-ghost use Rattle.log_laws.specs.Sums.{list_below, sum_below};
+ghost use Rattle.log_laws.specs.Sums.{sum_below};
 
 use crate::fractions::{WHOLE, composition, free_sum, rest_of};
 use case_types::{Cell, SLOTS};
