@@ -1,11 +1,13 @@
 //! The cells of the search: boxes of compositions times ranges of packing fractions.
 //!
-//! A cell bounds the free fractions, which are all but the last, and the packing fraction. Edges 0, 1 and 2 are the free
-//! fractions, edge 3 is the packing.
+//! A cell bounds the free fractions, which are all but the last of `n` components, and the packing fraction. Edges 0, 1 and
+//! 2 are the free fractions, in 2^-20, and edge 3 is the packing, in 2^-40. Where there are fewer than four components, the
+//! edges of the others aren't looked at.
 #![tactic(auto)]
 
 mod boxes;
 mod edges;
+mod fractions;
 mod halves;
 mod midpoints;
 #[cfg(test)]

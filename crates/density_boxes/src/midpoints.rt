@@ -1,21 +1,35 @@
 //! The middle of a cell on the grid.
 
-ghost use Rattle.std.specs.Prelude.{◌≡◌, ◌≤◌, ◌<◌, ◌^◌, IfSome};
+ghost use Rattle.std.specs.Prelude.{◌≡◌, ◌≤◌, ◌<◌, ◌^◌, IfSome, slice_index};
 ghost use Rattle.std.specs.Option.{option_map};
-ghost use Rattle.case_types.specs.Cells.{region_of, midpoint as region_midpoint};
+ghost use Rattle.case_types.specs.Cells.{region_of, midpoint as region_midpoint, middle_of};
+ghost use Rattle.log_laws.specs.Sums.{sum_below};
 
+use crate::fractions::{WHOLE, composition, free_sum, rest_of};
 use case_types::{Cell, SLOTS};
 
-/// The composition in the middle, in 2^-20, and the packing in the middle, in 2^-40. There is none where the rest of the
-/// composition would be negative, or the packing 0.
+/// The composition of `n` components in the middle, in 2^-20, and the packing in the middle, in 2^-40. There is none where
+/// the rest of the composition would be negative, or the packing 0.
 pub fn midpoint(n: u8, cell: &Cell) -> Option<([u32; SLOTS], u64)>
-    requires { n ≡ 1 }
+    requires one { 1 ≤ n }
+    requires four { n ≤ 4 }
     ensures value { option_map (λ m. record { composition = m.0; packing = m.1 }) result ≡ region_midpoint n (region_of cell.now) }
     ensures packing { IfSome result (λ m. (1 ≤ m.1) × (m.1 < 2 ^ 40)) }
+    ensures composition { IfSome result (λ m. sum_below 4 (slice_index m.0) ≡ 2 ^ 20) }
 {
+    let middles = [middle(cell, 0), middle(cell, 1), middle(cell, 2)];
+    let sum = free_sum(n, &middles);
     let packing = (cell.ylo + cell.yhi) / 2;
-    if packing == 0 {
+    if sum > WHOLE || packing == 0 {
         return None;
     }
-    Some(([1 << 20, 0, 0, 0], packing))
+    Some((composition(n, &middles, rest_of(sum)), packing))
+}
+
+/// The middle of a free fraction, in 2^-20.
+fn middle(cell: &Cell, edge: u8) -> u32
+    requires { edge < 3 }
+    ensures { result ≡ middle_of (region_of cell.now) edge }
+{
+    (cell.lo[edge as usize] + cell.hi[edge as usize]) / 2
 }

@@ -78,11 +78,13 @@ loop-cell-preserved-then-here-delta c =
     }
 
 pub is_unit-requires : goal.is_unit-requires
-is_unit-requires c = c.edge_to_halve.ensures ∙ (rw c.requires.one (packing_named (region_of c.in-Some.cell)))
+is_unit-requires c =
+    let edge : c.edge_to_halve.result ≡ 3 = c.edge_to_halve.ensures.named ∙ (rw c.requires.one (packing_named (region_of c.in-Some.cell))) in
+    omega arith
 
 wide : (c : After-cell-else-is_spent-2-1) → 2 ≤ c.in-Some.cell.yhi - c.in-Some.cell.ylo
 wide c =
-    let edge : c.edge_to_halve.result ≡ 3 = c.edge_to_halve.ensures ∙ (rw c.requires.one (packing_named (region_of c.in-Some.cell))) in
+    let edge : c.edge_to_halve.result ≡ 3 = c.edge_to_halve.ensures.named ∙ (rw c.requires.one (packing_named (region_of c.in-Some.cell))) in
     let unit = rw edge at c.is_unit.ensures.unit in
     not_one c.in-Some.cell.ylo c.in-Some.cell.yhi c.in-Some.cell.thick (λ k. let t = unit.1 k in cc)
 
@@ -124,7 +126,7 @@ loop-cell-preserved c =
           c.loop-cell.stack c.pop.new.self c.push_halves.new.self e c.push_halves.ensures c.push-else-is_spent-2.ensures.items (
             record { uncleared = cell_uncleared here.Else-here-delta; not_refuting = rw delta at c.in_default-refuting.ensures.none },
             no_unit_edge c.args.params.now.case.n (numbers_of c.args.params.now.case).count (region_of c.in-Some.cell) c.edge_to_halve.result c.is_unit.result
-                (count_is c.args.params.now.case) c.edge_to_halve.ensures c.is_unit.ensures.value c.if-is_unit.false,
+                (count_is c.args.params.now.case) c.edge_to_halve.ensures.named c.is_unit.ensures.value c.if-is_unit.false,
             packing_halved (numbers_of c.args.params.now.case).count (region_of c.in-Some.cell) (count_is c.args.params.now.case ∙ c.requires.one),
           )
           (omega (arith, next, old.spent)) (rw delta at old.so_far));
@@ -171,7 +173,7 @@ pub returns-then-is_unit-clause-found : goal.returns-then-is_unit-clause-found
 returns-then-is_unit-clause-found c =
     let here = (goal.at.returns-then-is_unit-clause-found c).Else-here-delta in (
       omega (arith, ints, here_low here, c.smaller-then-is_unit.ensures.second, c.close-low-then-is_unit.ensures.low, c.requires.delta_low, c.requires.delta_high),
-      record { one_unit = rw (count_is c.args.params.now.case, ← c.edge_to_halve.ensures) (c.is_unit.ensures.unit.0 c.if-is_unit.true); not_clear = not_clear here },
+      record { one_unit = rw (count_is c.args.params.now.case, ← c.edge_to_halve.ensures.named) (c.is_unit.ensures.unit.0 c.if-is_unit.true); not_clear = not_clear here },
     )
 
 pub returns-then-is_spent-2-clause-found : goal.returns-then-is_spent-2-clause-found
@@ -240,7 +242,7 @@ returns-then-is_unit-clause-searched c =
       same = refl;
       stuck = record { uncleared = cell_uncleared here; not_refuting = rw delta at c.in_default-refuting.ensures.none };
       one_unit = unit_edge case.n (numbers_of case).count (region_of c.in-Some.cell) c.edge_to_halve.result c.is_unit.result
-          (count_is case) c.edge_to_halve.ensures c.is_unit.ensures.value c.if-is_unit.true;
+          (count_is case) c.edge_to_halve.ensures.named c.is_unit.ensures.value c.if-is_unit.true;
     })
     closes (lesser_of here _ mid) (far_below here) (rw delta at c.loop-cell.invariant.so_far))
 
@@ -253,7 +255,7 @@ returns-then-is_spent-2-clause-searched c =
     (record {
       uncleared = cell_uncleared here;
       wants = inr (no_unit_edge case.n (numbers_of case).count (region_of c.in-Some.cell) c.edge_to_halve.result c.is_unit.result
-          (count_is case) c.edge_to_halve.ensures c.is_unit.ensures.value c.if-is_unit.false);
+          (count_is case) c.edge_to_halve.ensures.named c.is_unit.ensures.value c.if-is_unit.false);
     }) c.close-low-then-is_spent-2.ensures.closes)
 
 pub returns-clause-searched : goal.returns-clause-searched

@@ -1,0 +1,4 @@
+pub mod Lists
+pub mod Halvings
+pub mod Widest
+pub mod Spread
