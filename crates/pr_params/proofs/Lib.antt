@@ -13,6 +13,10 @@ pub mod Argument
 pub mod Lambda
 pub mod Pull
 pub mod Sized
+pub mod Weighted
+pub mod Spread
+pub mod CovolumeRange
+pub mod AttractionRange
 pub mod Below
 pub mod Components
 pub mod Right
@@ -21,5 +25,6 @@ pub mod Enclosed
 pub mod Attracted
 pub mod ParametersHold
 pub mod MeansHold
+pub mod AllMeans
 pub mod GreatestLift
 pub mod Ratios

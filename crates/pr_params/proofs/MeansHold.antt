@@ -104,7 +104,7 @@ raised_by x n h =
     omega (arith, p, inner, q, outer)
 
 -- a floor of ends on the low side is at most the quotient
-quotient_above : (m n b lift au ad bu bd : ℕ) → m ≤ n → n * ad ≤ au * 2 ^ (49 + lift) → bu * 2 ^ (56 + lift) ≤ b * bd →
+pub quotient_above : (m n b lift au ad bu bd : ℕ) → m ≤ n → n * ad ≤ au * 2 ^ (49 + lift) → bu * 2 ^ (56 + lift) ≤ b * bd →
     m * 2 ^ 47 / b * (ad * bu) ≤ au * bd * 2 ^ 40
 quotient_above m n b lift au ad bu bd e h k =
     let r = m * 2 ^ 47 / b in
@@ -119,7 +119,7 @@ quotient_above m n b lift au ad bu bd e h k =
     le_of_mul-le-mul_right l (pow_pos lift)
 
 -- a ceiling of ends on the high side is at least the quotient
-quotient_below : (m n b lift au ad bu bd : ℕ) → 0 < b → n ≤ m → au * 2 ^ (49 + lift) ≤ n * ad → b * bd ≤ bu * 2 ^ (56 + lift) →
+pub quotient_below : (m n b lift au ad bu bd : ℕ) → 0 < b → n ≤ m → au * 2 ^ (49 + lift) ≤ n * ad → b * bd ≤ bu * 2 ^ (56 + lift) →
     au * bd * 2 ^ 40 ≤ ceil_quotient (m * 2 ^ 47) b * (ad * bu)
 quotient_below m n b lift au ad bu bd some e h k =
     let r = ceil_quotient (m * 2 ^ 47) b in

@@ -75,7 +75,7 @@ returns-then-is_spent-clause-answer c =
     let units = c.round-found.new.units in
     let whole = c.round-found.ensures.budget ∙ c.loop-column.invariant.budget in
     let spent = c.is_spent.ensures.0 c.if-is_spent.true in
-    let value = rw (c.plane_of-plane-then-is_spent.ensures, c.root.ensures) at c.low_plain-low.ensures.value in
+    let value = rw (c.plane_of-plane-then-is_spent.ensures, c.root.ensures.whole) at c.low_plain-low.ensures.value in
     let region = ap (λ (n : ℕ). plain_low (numbers_of case) (plane_over c.first_column-first.result) (root_region n)) (count_is case) in
     let read = back c.low_plain-low.result (omega (arith, c.low_plain-low.ensures.small)) in
     let below : c.low_plain-low.result <ℤ neg_ℤ (delta_of c.args.tol) = rw (value ∙ sym region) (first_open here) in
@@ -140,7 +140,7 @@ returns-then-is_spent-clause-lawful c =
     let up = c.loop-column.basis.up in
     let up_read : to_z w128 (of_z w128 (to_z w64 (of_z w64 up))) ≡ up = omega (arith, ints, c.loop-column.invariant.column.small) in
     let low_read = back c.low_plain-low.result (omega (arith, c.low_plain-low.ensures.small)) in
-    let value = rw (c.root.ensures) at c.low_plain-low.ensures.value in
+    let value = rw (c.root.ensures.whole) at c.low_plain-low.ensures.value in
     let region = ap (λ (n : ℕ). plain_low (numbers_of case) c.plane_of-plane-then-is_spent.result.lam (root_region n)) (count_is case) in
     let low : c.answer_of-then-is_spent.result.low ≡ plain_low (numbers_of case) c.plane_of-plane-then-is_spent.result.lam (root_region (numbers_of case).count) =
     answer.low ∙ low_read ∙ value ∙ sym region in

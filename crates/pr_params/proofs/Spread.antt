@@ -1,0 +1,85 @@
+-- Whole parts that lie between ends of a box, and the sums that bound their means.
+use Rattle.std.proofs.Common.{◌≡◌, ℕ, zero, suc, ◌+◌, ◌*◌, ◌<◌, ◌≤◌, inl, inr, arith, ℤ, pos, negsuc, ◌*ℤ◌, ◌≤ℤ◌, Bool, true, false, cond}
+use Rattle.std.specs.Prelude.{int_lt}
+use Rattle.std.specs.Int.{int_min, int_max}
+use Rattle.std.proofs.lemmas.Bool.{cases_lt}
+use Rattle.std.proofs.lemmas.Int.{ints, clamps}
+use Rattle.std.proofs.Math.Nat.{mul-le-mul_left, mul-le-mul_right}
+use Rattle.log_laws.specs.Sums.{sum_below, int_sum_below, least_below, greatest_below}
+use Rattle.log_laws.proofs.Exports.{up-mul, down-mul, mul-le_ℤ, mul-add_ℤ, scale_scale, ≤ℤ_trans}
+
+-- ---- least and greatest
+pub least-le : (n i : ℕ) (f : ℕ → ℤ) (first : ℤ) → i < n → least_below n f first ≤ℤ f i
+unfolding least_below
+least-le zero i f first h = absurd (omega (arith, h))
+least-le (suc n) i f first h =
+    elim (cases_lt i n) [
+      | inl l ↦ let e = least-le n i f first l in omega (arith, ints, clamps, e)
+      | inr g ↦ let e : i ≡ n = omega (arith, g, h) in rw e (omega (arith, ints, clamps))
+    ]
+
+pub le-greatest : (n i : ℕ) (f : ℕ → ℤ) (first : ℤ) → i < n → f i ≤ℤ greatest_below n f first
+unfolding greatest_below
+le-greatest zero i f first h = absurd (omega (arith, h))
+le-greatest (suc n) i f first h =
+    elim (cases_lt i n) [
+      | inl l ↦ let e = le-greatest n i f first l in omega (arith, ints, clamps, e)
+      | inr g ↦ let e : i ≡ n = omega (arith, g, h) in rw e (omega (arith, ints, clamps))
+    ]
+
+-- a fact of two numbers holds of the lesser, and of the greater
+pub of_lesser : (P : ℤ → Type 0) (a b : ℤ) → P a → P b → P (int_min a b)
+of_lesser P a b pa pb = either (int_lt b a)
+  where
+    either : (t : Bool) → P (cond t b a)
+    either true = pb
+    either false = pa
+
+pub of_greater : (P : ℤ → Type 0) (a b : ℤ) → P a → P b → P (int_max a b)
+of_greater P a b pa pb = either (int_lt b a)
+  where
+    either : (t : Bool) → P (cond t a b)
+    either true = pa
+    either false = pb
+
+-- ---- one number that is below all, or above all
+pub below_all : (n : ℕ) (p z : ℕ → ℕ) (w : ℤ) → ((i : ℕ) → i < n → w ≤ℤ pos (z i))
+    → (w *ℤ pos (sum_below n p)) ≤ℤ pos (sum_below n (λ i. p i * z i))
+below_all zero p z w h = omega (arith, ints)
+below_all (suc n) p z w h =
+    let before = below_all n p z w (λ i l. h i (omega (arith, l))) in
+    let here = mul-le_ℤ w (pos (z n)) (p n) (h n (omega arith)) in
+    omega (arith, ints, before, here, mul-add_ℤ w (pos (sum_below n p)) (pos (p n)))
+
+pub above_all : (n : ℕ) (p z : ℕ → ℕ) (w : ℤ) → ((i : ℕ) → i < n → pos (z i) ≤ℤ w)
+    → pos (sum_below n (λ i. p i * z i)) ≤ℤ (w *ℤ pos (sum_below n p))
+above_all zero p z w h = omega (arith, ints)
+above_all (suc n) p z w h =
+    let before = above_all n p z w (λ i l. h i (omega (arith, l))) in
+    let here = mul-le_ℤ (pos (z n)) w (p n) (h n (omega arith)) in
+    omega (arith, ints, before, here, mul-add_ℤ w (pos (sum_below n p)) (pos (p n)))
+
+-- a negative number turns the order
+turned : (n x y : ℕ) → x ≤ y → (negsuc n *ℤ pos y) ≤ℤ (negsuc n *ℤ pos x)
+turned n x y h =
+    let e = mul-le-mul_left (suc n) h in
+    omega (arith, ints, e, up-mul (negsuc n) (pos x), down-mul (negsuc n) (pos x), up-mul (negsuc n) (pos y), down-mul (negsuc n) (pos y))
+
+-- ---- a part q between a and b of m, times a number t
+pub corner_least : (t : ℤ) (a b q m : ℕ) → a * m ≤ q → q ≤ b * m → (int_min (t *ℤ pos a) (t *ℤ pos b) *ℤ pos m) ≤ℤ (t *ℤ pos q)
+corner_least (pos n) a b q m h k =
+    let e = mul-le-mul_left n h in
+    let l = mul-le_ℤ (int_min (pos n *ℤ pos a) (pos n *ℤ pos b)) (pos n *ℤ pos a) m (omega (arith, ints, clamps)) in
+    omega (arith, ints, l, e)
+corner_least (negsuc n) a b q m h k =
+    let l = mul-le_ℤ (int_min (negsuc n *ℤ pos a) (negsuc n *ℤ pos b)) (negsuc n *ℤ pos b) m (omega (arith, ints, clamps)) in
+    ≤ℤ_trans _ _ _ l (rw (scale_scale (negsuc n) b m) (turned n q (b * m) k))
+
+pub corner_greatest : (t : ℤ) (a b q m : ℕ) → a * m ≤ q → q ≤ b * m → (t *ℤ pos q) ≤ℤ (int_max (t *ℤ pos a) (t *ℤ pos b) *ℤ pos m)
+corner_greatest (pos n) a b q m h k =
+    let e = mul-le-mul_left n k in
+    let l = mul-le_ℤ (pos n *ℤ pos b) (int_max (pos n *ℤ pos a) (pos n *ℤ pos b)) m (omega (arith, ints, clamps)) in
+    omega (arith, ints, l, e)
+corner_greatest (negsuc n) a b q m h k =
+    let l = mul-le_ℤ (negsuc n *ℤ pos a) (int_max (negsuc n *ℤ pos a) (negsuc n *ℤ pos b)) m (omega (arith, ints, clamps)) in
+    ≤ℤ_trans _ _ _ (rw (scale_scale (negsuc n) a m) (turned n (a * m) q h)) l
