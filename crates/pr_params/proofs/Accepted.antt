@@ -123,7 +123,7 @@ ceiling_positive (pos (suc n)) d h = omega (arith, ints)
 ceiling_positive (negsuc n) d h = absurd (omega (arith, ints, h))
 
 -- nor is a product of two such numbers
-product_positive : (a b : ℤ) → pos 0 ≤ℤ a → pos 0 ≤ℤ b → pos 0 ≤ℤ (a *ℤ b)
+pub product_positive : (a b : ℤ) → pos 0 ≤ℤ a → pos 0 ≤ℤ b → pos 0 ≤ℤ (a *ℤ b)
 product_positive (pos a) (pos b) h g = omega (arith, ints)
 product_positive (pos a) (negsuc b) h g = absurd (omega (arith, ints, g))
 product_positive (negsuc a) b h g = absurd (omega (arith, ints, h))

@@ -22,7 +22,7 @@ all_below_from (suc n) p h = both (all_below n p) (p n) (all_below_from n p (λ 
     both false b t u = t
 
 -- a test whose opposite is false is true
-true_of : (b : Bool) → not b ≡ false → IsTrue b
+pub true_of : (b : Bool) → not b ≡ false → IsTrue b
 true_of true e = refl
 true_of false e = absurd (cc e)
 

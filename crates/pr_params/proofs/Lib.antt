@@ -26,5 +26,6 @@ pub mod Attracted
 pub mod ParametersHold
 pub mod MeansHold
 pub mod AllMeans
+pub mod AcceptedSizes
 pub mod GreatestLift
 pub mod Ratios
