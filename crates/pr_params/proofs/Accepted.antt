@@ -117,7 +117,7 @@ floor_positive (pos n) d h = omega (arith, ints)
 floor_positive (negsuc n) d h = absurd (omega (arith, ints, h))
 
 -- nor is its ceiling
-ceiling_positive : (z : ℤ) (d : ℕ) → pos 0 ≤ℤ z → pos 0 ≤ℤ ceil_over z d
+pub ceiling_positive : (z : ℤ) (d : ℕ) → pos 0 ≤ℤ z → pos 0 ≤ℤ ceil_over z d
 ceiling_positive (pos zero) d h = rw (zero-div d) (omega (arith, ints))
 ceiling_positive (pos (suc n)) d h = omega (arith, ints)
 ceiling_positive (negsuc n) d h = absurd (omega (arith, ints, h))
@@ -139,6 +139,12 @@ bare_positive c lift q i j h g =
     let k = interaction_at_most c i j h g in
     let rest : pos 0 ≤ℤ (pos 10000 -ℤ interaction c i j) = omega (arith, ints, k) in
     floor_positive _ _ (product_positive _ _ (product_positive _ _ rest (omega (arith, ints))) (omega (arith, ints)))
+
+pub bare_high_positive : (c : Case) (lift : ℕ) (q : Ends) (i j : ℕ) → i < c.n → j < c.n → pos 0 ≤ℤ (bare_attraction_ends c lift q i j).hi
+bare_high_positive c lift q i j h g =
+    let k = interaction_at_most c i j h g in
+    let rest : pos 0 ≤ℤ (pos 10000 -ℤ interaction c i j) = omega (arith, ints, k) in
+    ceiling_positive _ _ (product_positive _ _ (product_positive _ _ rest (omega (arith, ints))) (omega (arith, ints)))
 
 -- nor is that of one component
 bare_one_positive : (c : Case) → pos 0 ≤ℤ (bare_one c).lo

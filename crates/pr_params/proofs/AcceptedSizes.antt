@@ -1,26 +1,28 @@
 -- How large the numbers of an accepted case are, for any number of components.
-use Rattle.std.proofs.Common.{◌≡◌, ℕ, zero, suc, ◌+◌, ◌*◌, ◌/◌, ◌^◌, ◌<◌, ◌≤◌, Bool, true, false, ◌&&◌, not, nat_le, nat_lt, IsTrue, IsFalse, inl, inr, refl, sym, ap, arith, ℤ, pos, ◌*ℤ◌, ◌≤ℤ◌, None}
+use Rattle.std.proofs.Common.{◌≡◌, ℕ, zero, suc, ◌+◌, ◌*◌, ◌/◌, ◌^◌, ◌<◌, ◌≤◌, Bool, true, false, ◌&&◌, not, nat_le, nat_lt, IsTrue, IsFalse, inl, inr, refl, sym, ap, arith, lit<, ℤ, pos, ◌*ℤ◌, ◌≤ℤ◌, None}
 use Rattle.std.proofs.lemmas.Bool.{cases_lt}
-use Rattle.std.proofs.lemmas.Int.{ints}
+use Rattle.std.specs.Int.{int_min, int_max}
+use Rattle.std.proofs.lemmas.Int.{ints, clamps}
 use Rattle.std.proofs.lemmas.Nat.{pow-add, le-div}
 use Rattle.std.proofs.Math.Nat.{mul-le-mul_left, mul-le-mul_right, le_of_mul-le-mul_right}
 use Rattle.log_laws.specs.Between.{Ends}
 use Rattle.log_laws.specs.Sums.{all_below}
-use Rattle.log_laws.proofs.Exports.{ceil_over-pos, product_pos}
+use Rattle.log_laws.specs.Whole.{floor_over, ceil_over}
+use Rattle.log_laws.proofs.Exports.{ceil_over-pos, floor_over-le, le-ceil_over}
 use Rattle.case_types.specs.declared.cases.Case.{Case}
 use Rattle.case_types.specs.CaseWords.{critical_temperature, critical_pressure}
 use Rattle.case_types.specs.Faults.{fault_of, covolumes_in_range, covolumes_are_near}
-use Rattle.case_types.specs.Numbers.{numbers_of, lift_of, covolume_ends, fits_lifted, greatest_ratio, pressure_root_of, enclosures_of}
+use Rattle.case_types.specs.Numbers.{numbers_of, lift_of, covolume_ends, fits_lifted, greatest_ratio, pressure_root_of, enclosures_of, alpha_root_ends, alpha_slope}
 use Rattle.case_types.specs.Tables.{ends_at, ends_of_pair}
-use Rattle.pr_params.proofs.Accepted.{floor_positive, product_positive, bare_positive}
+use Rattle.pr_params.proofs.Accepted.{floor_positive, ceiling_positive, product_positive, bare_positive, bare_high_positive}
 use Rattle.pr_params.proofs.AllMeans.{AreUsable}
-use Rattle.pr_params.proofs.AtComponents.{covolume_at, attraction_at, bare_attraction_at}
+use Rattle.pr_params.proofs.AtComponents.{covolume_at, attraction_at, bare_attraction_at, alpha_root_at}
 use Rattle.pr_params.proofs.Below.{all_below_at, or_else_none}
 use Rattle.pr_params.proofs.Component.{and_true, at_most}
 use Rattle.pr_params.proofs.Components.{component_at, den_positive_at}
 use Rattle.pr_params.proofs.GreatestLift.{lift_greatest, true_of}
 use Rattle.pr_params.proofs.ParametersHold.{alpha_large}
-use Rattle.pr_params.proofs.Sized.{count_of}
+use Rattle.pr_params.proofs.Sized.{count_of, cancelled}
 use Rattle.pr_params.proofs.Sizes.{or_where, ceiling_high}
 
 -- ---- a test that doesn't hold of all fails of one
@@ -161,6 +163,31 @@ attraction_least c i j e h k =
     let root : (v : ℤ) → pos (2 ^ 38) ≤ℤ v → pos 0 ≤ℤ v = λ v l. omega (arith, ints, l) in
     rw (attraction_at c i j h k)
     (floor_positive _ _ (product_positive _ _ bare (floor_positive _ _ (product_positive _ _ (root _ first) (root _ second)))))
+
+-- the ends of a root of alpha are in order
+alpha_ordered : (c : Case) (t : Ends) (i : ℕ) → (alpha_root_ends c t i).lo ≤ℤ (alpha_root_ends c t i).hi
+alpha_ordered c t i =
+    let a = alpha_slope c i t.lo in
+    let b = alpha_slope c i t.hi in
+    let low = floor_over-le (int_min a b) (10 ^ 13) (lit< tt) in
+    let high = le-ceil_over (int_max a b) (10 ^ 13) (lit< tt) in
+    let order = cancelled (floor_over (int_min a b) (10 ^ 13)) (ceil_over (int_max a b) (10 ^ 13)) (10 ^ 13) (lit< tt) (joined a b _ _ low high) in
+    omega (arith, ints, order)
+  where
+    joined : (a b x y : ℤ) → x ≤ℤ int_min a b → int_max a b ≤ℤ y → x ≤ℤ y
+    joined a b x y h k = omega (arith, ints, clamps, h, k)
+
+pub attraction_high_least : (c : Case) (i j : ℕ) → fault_of c ≡ None → i < c.n → j < c.n → pos 0 ≤ℤ (ends_of_pair (numbers_of c).attractions i j).hi
+attraction_high_least c i j e h k =
+    let bare : pos 0 ≤ℤ (ends_of_pair (numbers_of c).bare_attractions i j).hi =
+    rw (bare_attraction_at c i j h k) (bare_high_positive c (lift_of c) (pressure_root_of c (enclosures_of c).pressure_roots i j) i j h k) in
+    let root : (i : ℕ) → i < c.n → pos 0 ≤ℤ (ends_at (numbers_of c).alpha_roots i).hi =
+    λ i h.
+    (let low = rw (alpha_root_at c i h) at alpha_large c i h e in
+    let order = alpha_ordered c (ends_at (enclosures_of c).temperature_roots i) i in
+    rw (alpha_root_at c i h) (omega (arith, ints, low, order))) in
+    rw (attraction_at c i j h k)
+    (ceiling_positive _ _ (product_positive _ _ bare (ceiling_positive _ _ (product_positive _ _ (root i h) (root j k)))))
 
 -- ---- the numbers can be used for means
 rho_is_greatest : (c : Case) → (numbers_of c).rho ≡ greatest_ratio c.n (numbers_of c).attractions (numbers_of c).covolumes

@@ -105,7 +105,7 @@ le-least (suc n) f first w h k =
 ceil_at_most : (z g : ℤ) (d : ℕ) → 0 < d → ceil_div z (pos d) ≤ℤ g → z ≤ℤ (g *ℤ pos d)
 ceil_at_most z g d some h = ≤ℤ_trans _ _ _ (le-ceil_over z d some) (mul-le_ℤ (ceil_div z (pos d)) g d h)
 
-rho_positive : (n : ℕ) (q : Numbers) → AreUsable n q → pos 0 ≤ℤ q.rho
+pub rho_positive : (n : ℕ) (q : Numbers) → AreUsable n q → pos 0 ≤ℤ q.rho
 rho_positive n q u =
     subst (λ z. pos 0 ≤ℤ z) (sym u.rho)
     (first-le-greatest n (λ i. greatest_below n (λ j. ceil_div ((ends_of_pair q.attractions i j).hi *ℤ pos (2 ^ 47)) (ends_at q.covolumes i).lo) (pos 0)) (pos 0))

@@ -27,5 +27,7 @@ pub mod ParametersHold
 pub mod MeansHold
 pub mod AllMeans
 pub mod AcceptedSizes
+pub mod EitherWay
+pub mod HeldAt
 pub mod GreatestLift
 pub mod Ratios

@@ -1,5 +1,5 @@
 -- Whole parts that lie between ends of a box, and the sums that bound their means.
-use Rattle.std.proofs.Common.{◌≡◌, ℕ, zero, suc, ◌+◌, ◌*◌, ◌<◌, ◌≤◌, inl, inr, arith, ℤ, pos, negsuc, ◌*ℤ◌, ◌≤ℤ◌, Bool, true, false, cond}
+use Rattle.std.proofs.Common.{◌≡◌, ℕ, zero, suc, ◌+◌, ◌*◌, ◌<◌, ◌≤◌, inl, inr, arith, ℤ, pos, negsuc, ◌*ℤ◌, ◌≤ℤ◌, ◌<ℤ◌, Bool, true, false, cond}
 use Rattle.std.specs.Prelude.{int_lt}
 use Rattle.std.specs.Int.{int_min, int_max}
 use Rattle.std.proofs.lemmas.Bool.{cases_lt}
@@ -83,3 +83,20 @@ corner_greatest (pos n) a b q m h k =
 corner_greatest (negsuc n) a b q m h k =
     let l = mul-le_ℤ (negsuc n *ℤ pos a) (int_max (negsuc n *ℤ pos a) (negsuc n *ℤ pos b)) m (omega (arith, ints, clamps)) in
     ≤ℤ_trans _ _ _ (rw (scale_scale (negsuc n) a m) (turned n (a * m) q h)) l
+
+-- ---- which corner it is
+pub least_below_zero : (t : ℤ) (a b : ℕ) → a ≤ b → t <ℤ pos 0 → t *ℤ pos b ≡ int_min (t *ℤ pos a) (t *ℤ pos b)
+least_below_zero (pos n) a b h k = absurd (omega (arith, ints, k))
+least_below_zero (negsuc n) a b h k = let e = turned n a b h in omega (arith, ints, clamps, e)
+
+pub least_from_zero : (t : ℤ) (a b : ℕ) → a ≤ b → pos 0 ≤ℤ t → t *ℤ pos a ≡ int_min (t *ℤ pos a) (t *ℤ pos b)
+least_from_zero (pos n) a b h k = let e = mul-le-mul_left n h in omega (arith, ints, clamps, e)
+least_from_zero (negsuc n) a b h k = absurd (omega (arith, ints, k))
+
+pub greatest_below_zero : (t : ℤ) (a b : ℕ) → a ≤ b → t <ℤ pos 0 → t *ℤ pos a ≡ int_max (t *ℤ pos a) (t *ℤ pos b)
+greatest_below_zero (pos n) a b h k = absurd (omega (arith, ints, k))
+greatest_below_zero (negsuc n) a b h k = let e = turned n a b h in omega (arith, ints, clamps, e)
+
+pub greatest_from_zero : (t : ℤ) (a b : ℕ) → a ≤ b → pos 0 ≤ℤ t → t *ℤ pos b ≡ int_max (t *ℤ pos a) (t *ℤ pos b)
+greatest_from_zero (pos n) a b h k = let e = mul-le-mul_left n h in omega (arith, ints, clamps, e)
+greatest_from_zero (negsuc n) a b h k = absurd (omega (arith, ints, k))

@@ -6,7 +6,9 @@
 #![tactic(auto)]
 
 mod alphas;
+mod attraction_means;
 mod attractions;
+mod covolume_means;
 mod covolumes;
 mod lambdas;
 mod making;

@@ -4,7 +4,7 @@ ghost use Rattle.std.specs.Prelude.{◌≡◌, ◌≤◌, ◌<◌, ◌^◌, pos,
 ghost use Rattle.fix_interval.specs.Interval.{ends_of};
 ghost use Rattle.case_types.specs.Numbers.{numbers_of};
 ghost use Rattle.case_types.specs.Bounds.{covolume_scale};
-ghost use Rattle.pr_params.specs.One.{covolume_one, attraction_one};
+ghost use Rattle.case_types.specs.Tables.{ends_at, ends_of_pair};
 
 use crate::numbers::Params;
 use fix_interval::Iv;
@@ -60,66 +60,30 @@ impl Params {
     }
 }
 
-/// The reduced co-volume of the one component, in `2^-(56+lift)`.
-pub fn covolume_of(params: &Params) -> Iv
-    requires { params.now.case.n ≡ 1 }
-    ensures ends { ends_of result ≡ covolume_one params.now.case }
-    ensures low { pos (2 ^ 60) ≤ℤ result.lo }
+/// The reduced co-volume of a component, in `2^-(56+lift)`.
+pub fn covolume_of(params: &Params, i: u8) -> Iv
+    requires { i < params.now.case.n }
+    ensures ends { ends_of result ≡ ends_at (numbers_of params.now.case).covolumes i }
+    ensures low { pos (2 ^ 50) ≤ℤ result.lo }
     ensures high { result.hi ≤ℤ pos (2 ^ 61) }
 {
-    params.b[0]
+    params.b[i as usize]
 }
 
-/// The reduced co-volume of the one component at least, in `2^-(56+lift)`.
-pub fn covolume_lo(params: &Params) -> u128
-    requires { params.now.case.n ≡ 1 }
-    ensures value { pos result ≡ (covolume_one params.now.case).lo }
-    ensures low { 2 ^ 60 ≤ result }
-    ensures high { result ≤ 2 ^ 61 }
+/// The reduced attraction of two components, in `2^-(49+lift)`.
+pub fn attraction_of(params: &Params, i: u8, j: u8) -> Iv
+    requires first { i < params.now.case.n }
+    requires second { j < params.now.case.n }
+    ensures ends { ends_of result ≡ ends_of_pair (numbers_of params.now.case).attractions i j }
+    ensures low { pos 0 ≤ℤ result.lo }
+    ensures high { result.hi ≤ℤ pos (2 ^ 61) }
 {
-    covolume_of(params).lo as u128
-}
-
-/// The reduced co-volume of the one component at most, in `2^-(56+lift)`.
-pub fn covolume_hi(params: &Params) -> u128
-    requires { params.now.case.n ≡ 1 }
-    ensures value { pos result ≡ (covolume_one params.now.case).hi }
-    ensures above { (covolume_one params.now.case).lo ≤ℤ pos result }
-    ensures low { 2 ^ 60 ≤ result }
-    ensures high { result ≤ 2 ^ 61 }
-{
-    covolume_of(params).hi as u128
-}
-
-/// The reduced attraction of the one component at least, in `2^-(49+lift)`.
-pub fn attraction_lo(params: &Params) -> u128
-    requires { params.now.case.n ≡ 1 }
-    ensures value { pos result ≡ (attraction_one params.now.case).lo }
-    ensures small { pos result ≤ℤ (covolume_one params.now.case).lo }
-    ensures below { result < 2 ^ 62 }
-{
-    match params.a.first() {
-        Some(row) => row[0].lo as u128,
-        None => 0,
-    }
-}
-
-/// The reduced attraction of the one component at most, in `2^-(49+lift)`.
-pub fn attraction_hi(params: &Params) -> u128
-    requires { params.now.case.n ≡ 1 }
-    ensures value { pos result ≡ (attraction_one params.now.case).hi }
-    ensures small { pos result ≤ℤ (covolume_one params.now.case).lo }
-    ensures below { result < 2 ^ 62 }
-{
-    match params.a.first() {
-        Some(row) => row[0].hi as u128,
-        None => 0,
-    }
+    let row = params.a[i as usize];
+    row[j as usize]
 }
 
 /// The greatest attraction over a co-volume, in 2^-40.
 pub fn greatest_of(params: &Params) -> i128
-    requires { params.now.case.n ≡ 1 }
     ensures value { result ≡ (numbers_of params.now.case).rho }
     ensures low { pos 0 ≤ℤ result }
     ensures high { result ≤ℤ pos (2 ^ 47) }

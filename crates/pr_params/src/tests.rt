@@ -5,7 +5,7 @@ ghost use Rattle.case_types.specs.Ranges.{is_critical_temperature, is_critical_p
 
 use crate::making::params;
 use crate::numbers::Params;
-use crate::readers::{attraction_hi, attraction_lo, covolume_of, greatest_of};
+use crate::readers::{attraction_of, covolume_of, greatest_of};
 use case_types::{Case, Name, ParamFault, Row, SLOTS};
 use fix_interval::Iv;
 use std::test::Fail;
@@ -430,10 +430,10 @@ fn numbers_of(params: &Params) -> Numbers
 {
     let pairs = [
         ends(params.t[0]),
-        ends(covolume_of(params)),
+        ends(covolume_of(params, 0)),
         ends(params.m[0]),
         bare_of(params),
-        [attraction_lo(params) as i128, attraction_hi(params) as i128],
+        ends(attraction_of(params, 0, 0)),
     ];
     (params.lift, pairs, greatest_of(params))
 }

@@ -1,0 +1,17 @@
+use Rattle.std.proofs.Common.{◌∙◌, arith}
+use Rattle.std.proofs.lemmas.Int.{ints}
+use Rattle.log_laws.proofs.Exports.{back}
+use Rattle.pr_params.proofs.Spread.{least_below_zero, least_from_zero}
+use Rattle.pr_params.proofs.covolume_means.least_share.Goals as goal
+
+pub returns-then-step-lt0-clause-value : goal.returns-then-step-lt0-clause-value
+returns-then-step-lt0-clause-value c =
+    let s = c.times.ensures.small in
+    back c.times.result (omega (arith, s)) ∙ c.times.ensures.value
+    ∙ least_below_zero c.args.step c.args.a c.args.b c.requires.ordered (omega (arith, ints, c.if-step-lt0.true))
+
+pub returns-else-step-lt0-clause-value : goal.returns-else-step-lt0-clause-value
+returns-else-step-lt0-clause-value c =
+    let s = c.times.ensures.small in
+    back c.times.result (omega (arith, s)) ∙ c.times.ensures.value
+    ∙ least_from_zero c.args.step c.args.a c.args.b c.requires.ordered (omega (arith, ints, c.if-step-lt0.false))
