@@ -183,7 +183,7 @@ attraction_high_least c i j e h k =
     rw (bare_attraction_at c i j h k) (bare_high_positive c (lift_of c) (pressure_root_of c (enclosures_of c).pressure_roots i j) i j h k) in
     let root : (i : ℕ) → i < c.n → pos 0 ≤ℤ (ends_at (numbers_of c).alpha_roots i).hi =
     λ i h.
-    (let low = rw (alpha_root_at c i h) at alpha_large c i h e in
+    (let low = rw (alpha_root_at c i h) at (alpha_large c i h e) in
     let order = alpha_ordered c (ends_at (enclosures_of c).temperature_roots i) i in
     rw (alpha_root_at c i h) (omega (arith, ints, low, order))) in
     rw (attraction_at c i j h k)

@@ -16,7 +16,7 @@ use Rattle.case_types.specs.Numbers.{Numbers, greatest_ratio}
 use Rattle.case_types.specs.Tables.{ends_at, ends_of_pair}
 use Rattle.pr_params.proofs.Attracted.{by_among, among_of_between}
 use Rattle.pr_params.proofs.Mean.{ratio_high_is, ratio_low_is}
-use Rattle.pr_params.proofs.MeansHold.{quotient_above, quotient_below}
+use Rattle.pr_params.proofs.RatioEnds.{quotient_above, quotient_below}
 use Rattle.pr_params.proofs.Sized.{ends_ordered}
 use Rattle.pr_params.proofs.Spread.{le-greatest, of_lesser, above_all}
 use Rattle.pr_params.proofs.Weighted.{IsOver, IsUnder, mean_by, mean_over, mean_under, under_greater}
@@ -93,7 +93,7 @@ unfolding greatest_below
 first-le-greatest zero f first = omega (arith, ints)
 first-le-greatest (suc n) f first = let e = first-le-greatest n f first in omega (arith, ints, clamps, e)
 
-le-least : (n : ℕ) (f : ℕ → ℤ) (first w : ℤ) → w ≤ℤ first → ((i : ℕ) → i < n → w ≤ℤ f i) → w ≤ℤ least_below n f first
+pub le-least : (n : ℕ) (f : ℕ → ℤ) (first w : ℤ) → w ≤ℤ first → ((i : ℕ) → i < n → w ≤ℤ f i) → w ≤ℤ least_below n f first
 unfolding least_below
 le-least zero f first w h k = h
 le-least (suc n) f first w h k =
@@ -229,6 +229,8 @@ pub record AreMeans (q : Numbers) (x : Box) (b a : Fraction) : Type 0 where
   pub covolume : IsBetween (covolume_range q x) (2 ^ (56 + q.lift)) b
   pub low : IsAtMost (bits (ratio_low q x)) (quotient_of a b)
   pub high : IsAtMost (quotient_of a b) (bits (ratio_high q x))
+  pub low_positive : pos 0 ≤ℤ ratio_low q x
+  pub high_positive : pos 0 ≤ℤ ratio_high q x
 
 range_low : (n : ℕ) (q : Numbers) (x : Box) → AreUsable n q → pos 1 ≤ℤ (covolume_range q x).lo
 unfolding covolume_range
@@ -275,9 +277,14 @@ all_means n q b a x p m u h box =
     ∙ natural_is (high_by n q x) (shared_up_positive n p (slice_index x.hi) (λ i. shared_up n (slice_index x.hi) (λ j. (ends_of_pair q.attractions i j).hi))
     (λ i. positive_part (shared_up n (slice_index x.hi) (λ j. (ends_of_pair q.attractions i j).hi))) m box.some (λ i k. (box.inside i k).below)
     (λ i k. natural_is (shared_up n (slice_index x.hi) (λ j. (ends_of_pair q.attractions i j).hi)) (high_row_positive n q b a x p m i u h box k))) in
+    let low_ratio = ratio_low_is q x n0 d1 low_is at_high in
+    let high_ratio = ratio_high_is q x n1 d0 (omega (arith, ints, low, at_low)) high_is at_low in
+    let positive = rho_positive n q u in
     record {
       covolume = range;
-      low = rw (ratio_low_is q x n0 d1 low_is at_high) held.low;
-      high = rw (ratio_high_is q x n1 d0 (omega (arith, ints, low, at_low)) high_is at_low)
+      low = rw low_ratio held.low;
+      high = rw high_ratio
           (subst (λ (z : ℤ). IsAtMost (quotient_of mean_a mean_b) (bits (int_min (pos (ceil_quotient (n1 * 2 ^ 47) d0)) z))) (sym rho) held.high);
+      low_positive = rw low_ratio (omega (arith, ints));
+      high_positive = rw high_ratio (omega (arith, ints, clamps, positive));
     }

@@ -1,12 +1,14 @@
 -- The range of the mean co-volume over a box holds the mean of every composition in it, for any number of components.
-use Rattle.std.proofs.Common.{◌≡◌, ℕ, zero, suc, ◌+◌, ◌-◌, ◌*◌, ◌<◌, ◌≤◌, ap, sym, subst, arith, ℤ, pos, negsuc, ◌+ℤ◌, ◌-ℤ◌, ◌*ℤ◌, ◌≤ℤ◌, List, refl, lit<, slice_index}
+use Rattle.std.proofs.Common.{◌≡◌, ℕ, zero, suc, ◌+◌, ◌-◌, ◌*◌, ◌<◌, ◌≤◌, ap, sym, subst, arith, ℤ, pos, negsuc, ◌+ℤ◌, ◌-ℤ◌, ◌*ℤ◌, ◌≤ℤ◌, List, refl, lit<, slice_index, cond, nat_lt}
 use Rattle.std.specs.Int.{int_min, int_max}
+use Rattle.std.proofs.lemmas.Bool.{lt-ltb, le-ltb}
 use Rattle.std.proofs.lemmas.Int.{ints}
+use Rattle.std.proofs.Math.Nat.{mul-le-mul_right}
 use Rattle.log_laws.specs.Between.{Ends, IsBetween}
-use Rattle.log_laws.specs.Fraction.{Fraction}
+use Rattle.log_laws.specs.Fraction.{Fraction, whole}
 use Rattle.log_laws.specs.Sums.{sum_below, int_sum_below, least_below, greatest_below}
 use Rattle.log_laws.specs.Whole.{positive_part, floor_div, ceil_div}
-use Rattle.log_laws.proofs.Exports.{mul-le_ℤ, add-mul_ℤ, floor_over-le, le-ceil_over, scale_scale, scale_turned, ≤ℤ_trans}
+use Rattle.log_laws.proofs.Exports.{mul-le_ℤ, add-mul_ℤ, floor_over-le, le-ceil_over, scale_scale, scale_turned, ≤ℤ_trans, sum_below-scaled_same}
 use Rattle.case_types.specs.Bounds.{Box, one, covolume_range, low_fraction, high_fraction}
 use Rattle.case_types.specs.Numbers.{Numbers}
 use Rattle.case_types.specs.Tables.{ends_at}
@@ -80,7 +82,7 @@ ceil_above w rest g m before parts sum is h k =
     cancelled (pos (sum + parts * g)) (w *ℤ pos m) one (lit< tt) l
 
 -- ---- the range of the first n components
-abbrev low_by : ℕ → List Ends → Box → ℤ
+abbrev pub low_by : ℕ → List Ends → Box → ℤ
 low_by rest b x =
     let step : ℕ → ℤ = λ i. (ends_at b i).lo -ℤ (ends_at b rest).hi in
     floor_div
@@ -88,7 +90,7 @@ low_by rest b x =
     +ℤ int_sum_below rest (λ i. int_min (step i *ℤ low_fraction x i) (step i *ℤ high_fraction x i)))
     (pos one)
 
-abbrev high_by : ℕ → List Ends → Box → ℤ
+abbrev pub high_by : ℕ → List Ends → Box → ℤ
 high_by rest b x =
     let step : ℕ → ℤ = λ i. (ends_at b i).hi -ℤ (ends_at b rest).lo in
     ceil_div
@@ -96,7 +98,7 @@ high_by rest b x =
     +ℤ int_sum_below rest (λ i. int_max (step i *ℤ low_fraction x i) (step i *ℤ high_fraction x i)))
     (pos one)
 
-abbrev range_by : ℕ → ℕ → List Ends → Box → Ends
+abbrev pub range_by : ℕ → ℕ → List Ends → Box → Ends
 range_by n rest b x =
     let first = ends_at b 0 in
     record {
@@ -118,11 +120,17 @@ pub record AreInBox (n : ℕ) (x : Box) (parts : ℕ → ℕ) (m : ℕ) : Type 0
   pub all : m ≡ sum_below n parts
   pub inside : (i : ℕ) → i < n → IsInEnds (slice_index x.lo i) (slice_index x.hi i) (parts i) m
 
+-- the same of the free fractions alone
+pub record AreFree (rest : ℕ) (x : Box) (parts : ℕ → ℕ) (m : ℕ) : Type 0 where
+  pub some : 0 < m
+  pub all : m ≡ sum_below (suc rest) parts
+  pub inside : (i : ℕ) → i < rest → IsInEnds (slice_index x.lo i) (slice_index x.hi i) (parts i) m
+
 -- the same number, as an order
 same_at_most : (a z : ℤ) → a ≡ z → a ≤ℤ z
 same_at_most a z e = omega (arith, ints, e)
 
-range_above : (r : ℕ) (b : List Ends) (x : Box) (parts : ℕ → ℕ) (m s : ℕ) (f : ℕ → Fraction) → 0 < s → AreInBox (suc r) x parts m
+range_above : (r : ℕ) (b : List Ends) (x : Box) (parts : ℕ → ℕ) (m s : ℕ) (f : ℕ → Fraction) → 0 < s → AreFree r x parts m
     → ((i : ℕ) → i < suc r → HoldsNatural (ends_at b i) s (f i))
     → ((range_by (suc r) r b x).lo *ℤ pos (mean_by (suc r) m parts f).den) ≤ℤ ((mean_by (suc r) m parts f).num *ℤ pos s)
 range_above r b x parts m s f hs box h =
@@ -141,7 +149,7 @@ range_above r b x parts m s f hs box h =
     let rest = int_sum_below r (λ i. int_min (step i *ℤ low_fraction x i) (step i *ℤ high_fraction x i)) in
     let ordered = ends_ordered (ends_at b r) s (f r) last.held in
     let last_is = natural_is (ends_at b r).lo last.low in
-    let rests = rest_below r parts l (slice_index x.lo) (slice_index x.hi) step (l r) m (λ i k. box.inside i (omega (arith, k)))
+    let rests = rest_below r parts l (slice_index x.lo) (slice_index x.hi) step (l r) m (λ i k. box.inside i k)
     (λ i k. let e = natural_is (ends_at b i).lo (h i (omega (arith, k))).low in omega (arith, ints, e, last_is, ordered)) in
     let floor = floor_over-le ((ends_at b r).lo *ℤ pos one +ℤ rest) one (lit< tt) in
     let by_rest = floor_below (low_by r b x) rest (l r) m (sum_below r parts) (parts r) (sum_below r (λ i. parts i * l i)) box.all
@@ -150,7 +158,7 @@ range_above r b x parts m s f hs box h =
     (over_less least sum m s mean box.some by_least over)
     (over_less (low_by r b x) sum m s mean box.some by_rest over)
 
-range_below : (r : ℕ) (b : List Ends) (x : Box) (parts : ℕ → ℕ) (m s : ℕ) (f : ℕ → Fraction) → 0 < s → AreInBox (suc r) x parts m
+range_below : (r : ℕ) (b : List Ends) (x : Box) (parts : ℕ → ℕ) (m s : ℕ) (f : ℕ → Fraction) → 0 < s → AreFree r x parts m
     → ((i : ℕ) → i < suc r → HoldsNatural (ends_at b i) s (f i))
     → ((mean_by (suc r) m parts f).num *ℤ pos s) ≤ℤ ((range_by (suc r) r b x).hi *ℤ pos (mean_by (suc r) m parts f).den)
 range_below r b x parts m s f hs box h =
@@ -170,7 +178,7 @@ range_below r b x parts m s f hs box h =
     let rest = int_sum_below r (λ i. int_max (step i *ℤ low_fraction x i) (step i *ℤ high_fraction x i)) in
     let ordered = ends_ordered (ends_at b r) s (f r) last.held in
     let last_is = natural r (omega arith) in
-    let rests = rest_above r parts l (slice_index x.lo) (slice_index x.hi) step (l r) m (λ i k. box.inside i (omega (arith, k)))
+    let rests = rest_above r parts l (slice_index x.lo) (slice_index x.hi) step (l r) m (λ i k. box.inside i k)
     (λ i k. let e = natural i (omega (arith, k)) in omega (arith, ints, e, last_is, ordered)) in
     let ceil = le-ceil_over ((ends_at b r).hi *ℤ pos one +ℤ rest) one (lit< tt) in
     let by_rest = ceil_above (high_by r b x) rest (l r) m (sum_below r parts) (parts r) (sum_below r (λ i. parts i * l i)) box.all
@@ -179,17 +187,22 @@ range_below r b x parts m s f hs box h =
     (under_greater greatest sum m s mean box.some by_greatest under)
     (under_greater (high_by r b x) sum m s mean box.some by_rest under)
 
+range_free : (r : ℕ) (b : List Ends) (x : Box) (parts : ℕ → ℕ) (m s : ℕ) (f : ℕ → Fraction) → 0 < s → AreFree r x parts m
+    → ((i : ℕ) → i < suc r → HoldsNatural (ends_at b i) s (f i)) → IsBetween (range_by (suc r) r b x) s (mean_by (suc r) m parts f)
+range_free r b x parts m s f hs box h = record {
+  is_fraction = (mean_over (suc r) m s parts (λ i. positive_part (ends_at b i).lo) f box.some hs
+      (λ i k. over_end (ends_at b i) s (f i) (h i k).low (h i k).held)).is_fraction;
+  above = range_above r b x parts m s f hs box h;
+  below = range_below r b x parts m s f hs box h;
+}
+
 range_at : (n rest : ℕ) (b : List Ends) (x : Box) (parts : ℕ → ℕ) (m s : ℕ) (f : ℕ → Fraction) → n ≡ suc rest → 0 < s → AreInBox n x parts m
     → ((i : ℕ) → i < n → HoldsNatural (ends_at b i) s (f i)) → IsBetween (range_by n rest b x) s (mean_by n m parts f)
 range_at zero r b x parts m s f is hs box h = absurd (omega (arith, is))
 range_at (suc n) r b x parts m s f is hs box h =
     let same : n ≡ r = omega (arith, is) in
-    subst (λ (k : ℕ). IsBetween (range_by (suc n) k b x) s (mean_by (suc n) m parts f)) same (record {
-      is_fraction = (mean_over (suc n) m s parts (λ i. positive_part (ends_at b i).lo) f box.some hs
-          (λ i k. over_end (ends_at b i) s (f i) (h i k).low (h i k).held)).is_fraction;
-      above = range_above n b x parts m s f hs box h;
-      below = range_below n b x parts m s f hs box h;
-    })
+    subst (λ (k : ℕ). IsBetween (range_by (suc n) k b x) s (mean_by (suc n) m parts f)) same
+    (range_free n b x parts m s f hs (record { some = box.some; all = box.all; inside = λ i k. box.inside i (omega (arith, k)) }) h)
 
 pub range_holds : (n : ℕ) (q : Numbers) (x : Box) (parts : ℕ → ℕ) (m s : ℕ) (f : ℕ → Fraction) → q.count ≡ n → 0 < n → 0 < s → AreInBox n x parts m
     → ((i : ℕ) → i < n → HoldsNatural (ends_at q.covolumes i) s (f i)) → IsBetween (covolume_range q x) s (mean_by n m parts f)
@@ -197,3 +210,48 @@ unfolding covolume_range
 range_holds n q x parts m s f count some hs box h =
     subst (λ (k : ℕ). IsBetween (range_by k (k - 1) q.covolumes x) s (mean_by n m parts f)) (sym count)
     (range_at n (n - 1) q.covolumes x parts m s f (omega (arith, some)) hs box h)
+
+-- ---- the ends are in order
+-- the parts of the lower ends of the free fractions, and what they leave of one
+module _ (r : ℕ) (x : Box) (few : sum_below r (slice_index x.lo) ≤ one) where
+  abbrev least_parts : ℕ → ℕ
+  least_parts i = cond (nat_lt i r) (slice_index x.lo i) (one - sum_below r (slice_index x.lo))
+
+  free_part : (i : ℕ) → i < r → least_parts i ≡ slice_index x.lo i
+  free_part i h = rw (lt-ltb i r h) refl
+
+  free_sum : sum_below r least_parts ≡ sum_below r (slice_index x.lo)
+  free_sum =
+      let e = sum_below-scaled_same r 1 1 least_parts (slice_index x.lo) (λ i h. let k = free_part i h in omega (arith, k)) in
+      omega (arith, e)
+
+  last_part : least_parts r ≡ one - sum_below r (slice_index x.lo)
+  last_part = rw (le-ltb r r (omega arith)) refl
+
+  they_are_free : ((i : ℕ) → i < r → slice_index x.lo i ≤ slice_index x.hi i) → AreFree r x least_parts one
+  they_are_free ordered = record {
+    some = lit< tt;
+    all = (let a = free_sum in let b = last_part in omega (arith, a, b, few));
+    inside = λ i h. (let e = free_part i h in let o = ordered i h in let q = mul-le-mul_right one o in record { above = omega (arith, e); below = omega (arith, e, q) });
+  }
+
+ordered_at : (n rest : ℕ) (b : List Ends) (x : Box) → n ≡ suc rest → sum_below rest (slice_index x.lo) ≤ one → ((i : ℕ) → i < rest → slice_index x.lo i ≤ slice_index x.hi i)
+    → ((i : ℕ) → i < n → pos 0 ≤ℤ (ends_at b i).lo) → ((i : ℕ) → i < n → (ends_at b i).lo ≤ℤ (ends_at b i).hi)
+    → (range_by n rest b x).lo ≤ℤ (range_by n rest b x).hi
+ordered_at zero r b x is few inside low order = absurd (omega (arith, is))
+ordered_at (suc n) r b x is few inside low order =
+    let same : n ≡ r = omega (arith, is) in
+    subst (λ (k : ℕ). sum_below k (slice_index x.lo) ≤ one → ((i : ℕ) → i < k → slice_index x.lo i ≤ slice_index x.hi i) → (range_by (suc n) k b x).lo ≤ℤ (range_by (suc n) k b x).hi) same
+    (λ few inside.
+    ends_ordered (range_by (suc n) n b x) 1 (mean_by (suc n) one (least_parts n x few) (λ i. whole (ends_at b i).lo))
+    (range_free n b x (least_parts n x few) one 1 (λ i. whole (ends_at b i).lo) (lit< tt) (they_are_free n x few inside)
+    (λ i h. record { low = low i h; held = record { is_fraction = lit< tt; above = omega (arith, ints); below = (let o = order i h in omega (arith, ints, o)) } })))
+    few inside
+
+pub range_ordered : (n : ℕ) (q : Numbers) (x : Box) → q.count ≡ n → 0 < n → sum_below (n - 1) (slice_index x.lo) ≤ one → ((i : ℕ) → i < n → slice_index x.lo i ≤ slice_index x.hi i)
+    → ((i : ℕ) → i < n → pos 0 ≤ℤ (ends_at q.covolumes i).lo) → ((i : ℕ) → i < n → (ends_at q.covolumes i).lo ≤ℤ (ends_at q.covolumes i).hi)
+    → (covolume_range q x).lo ≤ℤ (covolume_range q x).hi
+unfolding covolume_range
+range_ordered n q x count some few inside low order =
+    subst (λ (k : ℕ). (range_by k (k - 1) q.covolumes x).lo ≤ℤ (range_by k (k - 1) q.covolumes x).hi) (sym count)
+    (ordered_at n (n - 1) q.covolumes x (omega (arith, some)) few (λ i h. inside i (omega (arith, h))) low order)

@@ -1,5 +1,5 @@
 -- Attractions are the same either way round, and at most the co-volumes of both components.
-use Rattle.std.proofs.Common.{◌≡◌, ℕ, ◌+◌, ◌*◌, ◌^◌, ◌<◌, ◌≤◌, Bool, true, false, ◌&&◌, nat_le, inl, inr, refl, sym, ap, ◌∙◌, subst, arith, zero, suc, ℤ, pos, ◌*ℤ◌, ◌-ℤ◌, ◌≤ℤ◌, None, List}
+use Rattle.std.proofs.Common.{◌≡◌, ℕ, ◌+◌, ◌*◌, ◌^◌, ◌<◌, ◌≤◌, Bool, true, false, ◌&&◌, not, nat_le, inl, inr, refl, sym, ap, ◌∙◌, subst, arith, zero, suc, ℤ, pos, ◌*ℤ◌, ◌-ℤ◌, ◌≤ℤ◌, None, List}
 use Rattle.std.specs.Prelude.{int_le, int_lt}
 use Rattle.std.specs.Int.{int_min}
 use Rattle.std.proofs.Math.IntN.{*ℤ_comm}
@@ -8,9 +8,9 @@ use Rattle.std.proofs.lemmas.Int.{ints, clamps}
 use Rattle.log_laws.specs.Between.{Ends}
 use Rattle.log_laws.specs.Whole.{floor_div, ceil_div}
 use Rattle.case_types.specs.declared.cases.Case.{Case}
-use Rattle.case_types.specs.declared.cases.ParamFault.TheVariants.{ARange}
+use Rattle.case_types.specs.declared.cases.ParamFault.TheVariants.{BRange, BRatio, ARange}
 use Rattle.case_types.specs.CaseWords.{critical_temperature, critical_pressure, interaction}
-use Rattle.case_types.specs.Faults.{fault_of, attraction_fault, first_below}
+use Rattle.case_types.specs.Faults.{fault_of, fault_where, or_else, covolumes_in_range, covolumes_are_near, alpha_fault, attraction_fault, first_below}
 use Rattle.case_types.specs.Instances.{pair_place}
 use Rattle.case_types.specs.Numbers.{numbers_of, lift_of, enclosures_of, pressure_root_of, attraction_ends}
 use Rattle.case_types.specs.Parameters.{cohesion_num, cohesion_den}
@@ -101,8 +101,12 @@ in_order : (c : Case) (i j : ℕ) → fault_of c ≡ None → i < c.n → j < c.
 unfolding fault_of
 in_order c i j e h g o =
     let p = numbers_of c in
-    let later = (or_else_none _ _ (or_else_none _ _ e).1).1 in
-    let last = (or_else_none _ _ later).1 in
+    let range = fault_where (not (covolumes_in_range c)) BRange in
+    let near = fault_where (not (covolumes_are_near c)) BRatio in
+    let roots = first_below c.n (alpha_fault p) in
+    let pairs = first_below c.n (λ i. first_below c.n (attraction_fault p i)) in
+    let later = (or_else_none range (or_else near (or_else roots pairs)) e).1 in
+    let last = (or_else_none roots pairs (or_else_none near (or_else roots pairs) later).1).1 in
     let row = first_below_none c.n (λ i. first_below c.n (attraction_fault p i)) i h last in
     let here = first_below_none c.n (attraction_fault p i) j g row in
     let low = int_min (ends_at p.covolumes i).lo (ends_at p.covolumes j).lo in
@@ -125,7 +129,7 @@ attraction_most c i j e h g =
     ]
 
 -- ---- the greatest ratio
-greatest-le : (n : ℕ) (f : ℕ → ℤ) (first w : ℤ) → first ≤ℤ w → ((i : ℕ) → i < n → f i ≤ℤ w) → greatest_below n f first ≤ℤ w
+pub greatest-le : (n : ℕ) (f : ℕ → ℤ) (first w : ℤ) → first ≤ℤ w → ((i : ℕ) → i < n → f i ≤ℤ w) → greatest_below n f first ≤ℤ w
 unfolding greatest_below
 greatest-le zero f first w h k = h
 greatest-le (suc n) f first w h k =

@@ -24,10 +24,10 @@ pub mod AtComponents
 pub mod Enclosed
 pub mod Attracted
 pub mod ParametersHold
-pub mod MeansHold
+pub mod RatioEnds
 pub mod AllMeans
 pub mod AcceptedSizes
 pub mod EitherWay
 pub mod HeldAt
+pub mod MeansHold
 pub mod GreatestLift
-pub mod Ratios

@@ -12,7 +12,7 @@ use Rattle.case_types.specs.declared.cases.Case.{Case}
 use Rattle.case_types.specs.Bounds.{Box, covolume_range}
 use Rattle.case_types.specs.Faults.{fault_of}
 use Rattle.case_types.specs.Numbers.{Numbers, numbers_of}
-use Rattle.case_types.specs.Ranges.{is_each_up_to}
+use Rattle.case_types.specs.Ranges.{is_each_up_to, is_each_at_most}
 use Rattle.case_types.specs.Divisions.{State, moles, mole_fraction, mean_attraction}
 use Rattle.case_types.specs.Holding.{HoldsParameters}
 use Rattle.case_types.specs.Instances.{Instance}
@@ -21,9 +21,7 @@ use Rattle.log_laws.specs.Sums.{fraction_sum_below}
 use Rattle.pr_params.proofs.Argument.{positive_between}
 use Rattle.pr_params.proofs.Below.{all_below_at}
 use Rattle.pr_params.proofs.Pull.{by_natural}
-use Rattle.pr_params.proofs.Accepted.{two_exact, e_exact, lift_small, covolume_sizes}
 use Rattle.pr_params.proofs.Lambda.{two_ends}
-use Rattle.pr_params.proofs.Mean.{range_is}
 
 -- the ends of the logarithm of e
 abbrev pub e_ends : Ends
@@ -35,7 +33,7 @@ pub record IsSized (n : ℕ) (p : Numbers) (box : Box) : Type 0 where
   pub root_two : p.root_two ≡ two_ends
   pub log_e : p.log_e ≡ e_ends
   pub lift : p.lift ≤ 29
-  pub covolume_low : pos (2 ^ 60) ≤ℤ (covolume_range p box).lo
+  pub covolume_low : pos (2 ^ 50) ≤ℤ (covolume_range p box).lo
   pub covolume_high : (covolume_range p box).hi ≤ℤ pos (2 ^ 61)
   pub fractions : (i : ℕ) → i < n → slice_index box.hi i ≤ 2 ^ 40
 
@@ -43,20 +41,6 @@ pub record IsSized (n : ℕ) (p : Numbers) (box : Box) : Type 0 where
 pub count_of : (c : Case) → (numbers_of c).count ≡ c.n
 unfolding numbers_of
 count_of c = refl
-
-pub sized_one : (c : Case) (box : Box) → c.n ≡ 1 → fault_of c ≡ None → ((i : ℕ) → i < c.n → slice_index box.hi i ≤ 2 ^ 40) → IsSized c.n (numbers_of c) box
-sized_one c box h e small =
-    let is = sym (range_is c box h e) in
-    let size = covolume_sizes c h e in
-    record {
-      count = count_of c;
-      root_two = two_exact c;
-      log_e = e_exact c;
-      lift = lift_small c;
-      covolume_low = subst (λ (v : Ends). pos (2 ^ 60) ≤ℤ v.lo) is size.0;
-      covolume_high = subst (λ (v : Ends). v.hi ≤ℤ pos (2 ^ 61)) is size.1;
-      fractions = small;
-    }
 
 -- ---- scales and fractions
 -- the scale of the covolume over that of the packings
@@ -66,6 +50,13 @@ scale_split l = let k : 56 + l ≡ 40 + (16 + l) = omega arith in ap (λ (x : �
 -- each entry is at most the limit
 pub each_up_to : (n : ℕ) (xs : List ℕ) (limit : ℕ) → IsTrue (is_each_up_to n xs limit) → (i : ℕ) → i < n → slice_index xs i ≤ limit
 each_up_to n xs limit h i l = at_most (slice_index xs i) limit (all_below_at n (λ i. nat_le (slice_index xs i) limit) i l h)
+  where
+    at_most : (a b : ℕ) → IsTrue (nat_le a b) → a ≤ b
+    at_most a b h = grind (arith, h)
+
+-- each entry is at most that of the other list
+pub each_at_most : (n : ℕ) (xs ys : List ℕ) → IsTrue (is_each_at_most n xs ys) → (i : ℕ) → i < n → slice_index xs i ≤ slice_index ys i
+each_at_most n xs ys h i l = at_most (slice_index xs i) (slice_index ys i) (all_below_at n (λ i. nat_le (slice_index xs i) (slice_index ys i)) i l h)
   where
     at_most : (a b : ℕ) → IsTrue (nat_le a b) → a ≤ b
     at_most a b h = grind (arith, h)
@@ -85,11 +76,11 @@ ends_ordered v scale f b = cancelled v.lo v.hi f.den b.is_fraction (≤ℤ_trans
 pub between_apart : (v : Ends) (scale : ℕ) (f : Fraction) → IsBetween v scale f → IsBetween (record { lo = v.lo; hi = v.hi }) scale f
 between_apart v scale f b = record { is_fraction = b.is_fraction; above = b.above; below = b.below }
 
--- an end of 2 ^ 60 at least is natural, and what lies above it is positive
-pub covolume_positive : (v : Ends) (scale : ℕ) (b : Fraction) → pos (2 ^ 60) ≤ℤ v.lo → IsBetween v scale b → IsPositive b
+-- an end of 2 ^ 50 at least is natural, and what lies above it is positive
+pub covolume_positive : (v : Ends) (scale : ℕ) (b : Fraction) → pos (2 ^ 50) ≤ℤ v.lo → IsBetween v scale b → IsPositive b
 covolume_positive v scale b low hold =
-    by_natural (λ z. pos (2 ^ 60) ≤ℤ z → IsBetween (record { lo = z; hi = v.hi }) scale b → IsPositive b) v.lo (omega (arith, ints, low))
-    (λ l low hold. positive_between l scale v.hi b (let q = le_out (pos (2 ^ 60)) (pos l) low in omega (arith, q)) hold) low (between_apart v scale b hold)
+    by_natural (λ z. pos (2 ^ 50) ≤ℤ z → IsBetween (record { lo = z; hi = v.hi }) scale b → IsPositive b) v.lo (omega (arith, ints, low))
+    (λ l low hold. positive_between l scale v.hi b (let q = le_out (pos (2 ^ 50)) (pos l) low in omega (arith, q)) hold) low (between_apart v scale b hold)
 
 -- ---- the means
 -- a sum of fractions is a fraction

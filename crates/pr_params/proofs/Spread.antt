@@ -1,12 +1,12 @@
 -- Whole parts that lie between ends of a box, and the sums that bound their means.
-use Rattle.std.proofs.Common.{◌≡◌, ℕ, zero, suc, ◌+◌, ◌*◌, ◌<◌, ◌≤◌, inl, inr, arith, ℤ, pos, negsuc, ◌*ℤ◌, ◌≤ℤ◌, ◌<ℤ◌, Bool, true, false, cond}
+use Rattle.std.proofs.Common.{◌≡◌, ℕ, zero, suc, ◌+◌, ◌*◌, ◌<◌, ◌≤◌, inl, inr, refl, arith, ℤ, pos, negsuc, ◌+ℤ◌, ◌*ℤ◌, ◌≤ℤ◌, ◌<ℤ◌, Bool, true, false, cond, ◌^◌, unsigned_abs, to_z, of_z}
 use Rattle.std.specs.Prelude.{int_lt}
-use Rattle.std.specs.Int.{int_min, int_max}
+use Rattle.std.specs.Int.{int_min, int_max, w128}
 use Rattle.std.proofs.lemmas.Bool.{cases_lt}
 use Rattle.std.proofs.lemmas.Int.{ints, clamps}
 use Rattle.std.proofs.Math.Nat.{mul-le-mul_left, mul-le-mul_right}
 use Rattle.log_laws.specs.Sums.{sum_below, int_sum_below, least_below, greatest_below}
-use Rattle.log_laws.proofs.Exports.{up-mul, down-mul, mul-le_ℤ, mul-add_ℤ, scale_scale, ≤ℤ_trans}
+use Rattle.log_laws.proofs.Exports.{up-mul, down-mul, mul-le_ℤ, mul-add_ℤ, scale_scale, ≤ℤ_trans, back}
 
 -- ---- least and greatest
 pub least-le : (n i : ℕ) (f : ℕ → ℤ) (first : ℤ) → i < n → least_below n f first ≤ℤ f i
@@ -100,3 +100,40 @@ greatest_below_zero (negsuc n) a b h k = let e = turned n a b h in omega (arith,
 pub greatest_from_zero : (t : ℤ) (a b : ℕ) → a ≤ b → pos 0 ≤ℤ t → t *ℤ pos b ≡ int_max (t *ℤ pos a) (t *ℤ pos b)
 greatest_from_zero (pos n) a b h k = let e = mul-le-mul_left n h in omega (arith, ints, clamps, e)
 greatest_from_zero (negsuc n) a b h k = absurd (omega (arith, ints, k))
+
+-- ---- step by step
+pub least-none : (f : ℕ → ℤ) (first : ℤ) → least_below 0 f first ≡ first
+unfolding least_below
+least-none f first = refl
+
+pub least-more : (n : ℕ) (f : ℕ → ℤ) (first : ℤ) → least_below (n + 1) f first ≡ int_min (least_below n f first) (f n)
+unfolding least_below
+least-more n f first = let e : n + 1 ≡ suc n = omega arith in rw e refl
+
+pub greatest-none : (f : ℕ → ℤ) (first : ℤ) → greatest_below 0 f first ≡ first
+unfolding greatest_below
+greatest-none f first = refl
+
+pub greatest-more : (n : ℕ) (f : ℕ → ℤ) (first : ℤ) → greatest_below (n + 1) f first ≡ int_max (greatest_below n f first) (f n)
+unfolding greatest_below
+greatest-more n f first = let e : n + 1 ≡ suc n = omega arith in rw e refl
+
+pub sum-none : (f : ℕ → ℤ) → int_sum_below 0 f ≡ pos 0
+unfolding int_sum_below
+sum-none f = refl
+
+pub sum-more : (n : ℕ) (f : ℕ → ℤ) → int_sum_below (n + 1) f ≡ int_sum_below n f +ℤ f n
+unfolding int_sum_below
+sum-more n f = let e : n + 1 ≡ suc n = omega arith in rw e refl
+
+-- one number more in a sum that is kept in 128 bits
+pub grown : (i : ℕ) (f : ℕ → ℤ) (sum share : ℤ) → i < 4 → unsigned_abs sum ≤ i * 2 ^ 103 → unsigned_abs share ≤ 2 ^ 103 → sum ≡ int_sum_below i f → share ≡ f i
+    → (to_z w128 (of_z w128 (sum +ℤ to_z w128 (of_z w128 share))) ≡ int_sum_below (i + 1) f)
+    × (unsigned_abs (to_z w128 (of_z w128 (sum +ℤ to_z w128 (of_z w128 share)))) ≤ (i + 1) * 2 ^ 103)
+grown i f sum share few h k is at =
+    let read : to_z w128 (of_z w128 share) ≡ share = back share (omega (arith, k)) in
+    let all : to_z w128 (of_z w128 (sum +ℤ share)) ≡ sum +ℤ share = back (sum +ℤ share) (omega (arith, ints, h, k, few)) in
+    (
+      rw (read, all, sum-more i f) (rw (is, at) refl),
+      rw (read, all) (omega (arith, ints, h, k)),
+    )

@@ -47,27 +47,45 @@ pub fn greatest_covolume(params: &Params) -> i128
 /// The mean co-volume at least, the last fraction being what the others leave of 1, in `2^-(56+lift)`.
 pub fn low_by_rest(params: &Params, x: &BoxX) -> i128
     ensures value { result ≡ covolume_low_by_rest (numbers_of params.now.case) (box_of x.now) }
-    ensures small { unsigned_abs result ≤ 2 ^ 64 }
+    ensures small { unsigned_abs result ≤ 2 ^ 66 }
 {
     let last = covolume_of(params, params.case.n - 1).lo;
-    last_and_rises(last, low_rises(params, x)) >> 40
+    floored(last_and_rises(last, low_rises(params, x)))
 }
 
 /// The mean co-volume at most, the last fraction being what the others leave of 1, in `2^-(56+lift)`.
 pub fn high_by_rest(params: &Params, x: &BoxX) -> i128
     ensures value { result ≡ covolume_high_by_rest (numbers_of params.now.case) (box_of x.now) }
-    ensures small { unsigned_abs result ≤ 2 ^ 64 }
+    ensures small { unsigned_abs result ≤ 2 ^ 66 }
 {
     let last = covolume_of(params, params.case.n - 1).hi;
-    -(-last_and_rises(last, high_rises(params, x)) >> 40)
+    raised(last_and_rises(last, high_rises(params, x)))
+}
+
+/// A number in 2^-40, rounded down.
+pub fn floored(z: i128) -> i128
+    requires { unsigned_abs z ≤ 2 ^ 106 }
+    ensures value { result ≡ floor_div z (pos (2 ^ 40)) }
+    ensures small { unsigned_abs result ≤ 2 ^ 66 }
+{
+    z >> 40
+}
+
+/// A number in 2^-40, rounded up.
+pub fn raised(z: i128) -> i128
+    requires { unsigned_abs z ≤ 2 ^ 106 }
+    ensures value { result ≡ ceil_div z (pos (2 ^ 40)) }
+    ensures small { unsigned_abs result ≤ 2 ^ 66 }
+{
+    -floored(-z)
 }
 
 /// The last co-volume and what the others add to it, both in 2^-40 of its unit.
 fn last_and_rises(last: i128, rises: i128) -> i128
     requires last { unsigned_abs last ≤ 2 ^ 61 }
-    requires rises { unsigned_abs rises ≤ 2 ^ 103 }
+    requires rises { unsigned_abs rises ≤ 2 ^ 105 }
     ensures value { result ≡ last *ℤ pos (2 ^ 40) +ℤ rises }
-    ensures small { unsigned_abs result ≤ 2 ^ 104 }
+    ensures small { unsigned_abs result ≤ 2 ^ 106 }
 {
     last * ONE + rises
 }
@@ -78,7 +96,7 @@ fn low_rises(params: &Params, x: &BoxX) -> i128
         result ≡ int_sum_below rest (λ i. int_min
             (((ends_at b i).lo -ℤ (ends_at b rest).hi) *ℤ low_fraction (box_of x.now) i)
             (((ends_at b i).lo -ℤ (ends_at b rest).hi) *ℤ high_fraction (box_of x.now) i)) }
-    ensures small { unsigned_abs result ≤ 2 ^ 103 }
+    ensures small { unsigned_abs result ≤ 2 ^ 105 }
 {
     let rest = params.case.n - 1;
     let last = covolume_of(params, rest).hi;
@@ -95,7 +113,7 @@ fn high_rises(params: &Params, x: &BoxX) -> i128
         result ≡ int_sum_below rest (λ i. int_max
             (((ends_at b i).hi -ℤ (ends_at b rest).lo) *ℤ low_fraction (box_of x.now) i)
             (((ends_at b i).hi -ℤ (ends_at b rest).lo) *ℤ high_fraction (box_of x.now) i)) }
-    ensures small { unsigned_abs result ≤ 2 ^ 103 }
+    ensures small { unsigned_abs result ≤ 2 ^ 105 }
 {
     let rest = params.case.n - 1;
     let last = covolume_of(params, rest).lo;
@@ -140,20 +158,20 @@ fn times(step: i128, fraction: u64) -> i128
 
 /// The lesser of two numbers.
 pub fn lesser(a: i128, b: i128) -> i128
-    requires a { unsigned_abs a ≤ 2 ^ 64 }
-    requires b { unsigned_abs b ≤ 2 ^ 64 }
+    requires a { unsigned_abs a ≤ 2 ^ 66 }
+    requires b { unsigned_abs b ≤ 2 ^ 66 }
     ensures value { result ≡ int_min a b }
-    ensures small { unsigned_abs result ≤ 2 ^ 64 }
+    ensures small { unsigned_abs result ≤ 2 ^ 66 }
 {
     if a <= b { a } else { b }
 }
 
 /// The greater of two numbers.
 pub fn greater(a: i128, b: i128) -> i128
-    requires a { unsigned_abs a ≤ 2 ^ 64 }
-    requires b { unsigned_abs b ≤ 2 ^ 64 }
+    requires a { unsigned_abs a ≤ 2 ^ 66 }
+    requires b { unsigned_abs b ≤ 2 ^ 66 }
     ensures value { result ≡ int_max a b }
-    ensures small { unsigned_abs result ≤ 2 ^ 64 }
+    ensures small { unsigned_abs result ≤ 2 ^ 66 }
 {
     if a <= b { b } else { a }
 }

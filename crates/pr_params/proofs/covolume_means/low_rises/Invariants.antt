@@ -14,4 +14,4 @@ invariant-loop-i l =
     (l.sum ≡ int_sum_below l.i (λ i. int_min
     (((ends_at b i).lo -ℤ (ends_at b rest).hi) *ℤ low_fraction (box_of l.x) i)
     (((ends_at b i).lo -ℤ (ends_at b rest).hi) *ℤ high_fraction (box_of l.x) i)))
-    × (unsigned_abs l.sum ≤ l.i * 2 ^ 101)
+    × (unsigned_abs l.sum ≤ l.i * 2 ^ 103)
