@@ -12,7 +12,7 @@ use Rattle.pr_params.proofs.One.{fault_one}
 pub le_yes : (a b : ℕ) → a ≤ b → nat_le a b ≡ true
 le_yes a b h = grind (arith, h)
 
-le_no : (a b : ℕ) → b < a → nat_le a b ≡ false
+pub le_no : (a b : ℕ) → b < a → nat_le a b ≡ false
 le_no a b h = grind (arith, h)
 
 pub lt_yes : (a b : ℕ) → a < b → nat_lt a b ≡ true
@@ -21,10 +21,10 @@ lt_yes a b h = grind (arith, h)
 pub lt_no : (a b : ℕ) → b ≤ a → nat_lt a b ≡ false
 lt_no a b h = grind (arith, h)
 
-below_yes : (a b : ℤ) → a <ℤ b → int_lt a b ≡ true
+pub below_yes : (a b : ℤ) → a <ℤ b → int_lt a b ≡ true
 below_yes a b h = grind (arith, ints, h)
 
-below_no : (a b : ℤ) → b ≤ℤ a → int_lt a b ≡ false
+pub below_no : (a b : ℤ) → b ≤ℤ a → int_lt a b ≡ false
 below_no a b h = grind (arith, ints, h)
 
 least_same : (a : ℤ) → int_min a a ≡ a

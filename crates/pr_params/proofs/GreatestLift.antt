@@ -38,7 +38,7 @@ fits_unlifted c e =
     at_one : (x y : ℕ) → IsTrue (nat_le x y) → IsTrue (nat_le (x * 2 ^ 0) y)
     at_one x y h = le_yes (x * 2 ^ 0) y (let p = at_most x y h in omega (arith, p))
 
-greatest_up_to : (c : Case) (k : ℕ) → IsTrue (all_below c.n (λ i. fits_lifted c 0 i)) → IsGreatestLift c k (lift_up_to c k)
+pub greatest_up_to : (c : Case) (k : ℕ) → IsTrue (all_below c.n (λ i. fits_lifted c 0 i)) → IsGreatestLift c k (lift_up_to c k)
 unfolding lift_up_to
 greatest_up_to c zero h = record { within = omega arith; fits = h; greatest = λ more l m. absurd (omega (arith, l, m)) }
 greatest_up_to c (suc k) h = step (all_below c.n (λ i. fits_lifted c (suc k) i)) refl (lift_up_to c k) (greatest_up_to c k h)

@@ -23,3 +23,13 @@ pub mod ParametersHold
 pub mod MeansHold
 pub mod GreatestLift
 pub mod Ratios
+pub mod Lifts
+pub mod Slots
+pub mod Entries
+pub mod Placed
+pub mod Pressures
+pub mod Bares
+pub mod EntrySizes
+pub mod EntryFaults
+pub mod FirstFault
+pub mod Filled

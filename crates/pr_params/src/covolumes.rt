@@ -53,10 +53,9 @@ pub fn covolume(num: u128, den: u128, lift: u32) -> Iv
     requires den { den < 2 ^ 59 }
     requires lift { lift ≤ 29 }
     requires lifted { num * 2 ^ lift ≤ 32 * den }
-    requires not_small { 16 * den ≤ num * 2 ^ lift }
     ensures lo { result.lo ≡ pos (num * 2 ^ (56 + lift) / den) }
     ensures hi { result.hi ≡ pos (ceil_quotient (num * 2 ^ (56 + lift)) den) }
-    ensures low { pos (2 ^ 60) ≤ℤ result.lo }
+    ensures low { pos 0 ≤ℤ result.lo }
     ensures high { result.hi ≤ℤ pos (2 ^ 61) }
 {
     let (lo, hi) = ratio_ends(num, den, 56 + lift);

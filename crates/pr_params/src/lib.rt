@@ -7,8 +7,13 @@
 
 mod alphas;
 mod attractions;
+mod bases;
+mod by_component;
+mod by_pair;
 mod covolumes;
 mod lambdas;
+mod lifted;
+mod lifting;
 mod making;
 mod naturals;
 mod numbers;
