@@ -1,24 +1,22 @@
 -- How large the attraction of two components without alpha is, and that it is the same either way round.
-use Rattle.std.proofs.Common.{◌≡◌, ℕ, ◌+◌, ◌*◌, ◌/◌, ◌^◌, ◌<◌, ◌≤◌, IsTrue, refl, ap, ◌∙◌, arith, inl, inr, ℤ, pos, ◌-ℤ◌, ◌*ℤ◌, ◌≤ℤ◌, unsigned_abs, lit<}
-use Rattle.std.proofs.Math.Nat.{mul-le-mul, mul-le-mul_left, mul-le-mul_right, pow-suc, pow-zero, one-mul}
+use Rattle.std.proofs.Common.{◌≡◌, ℕ, ◌+◌, ◌*◌, ◌/◌, ◌^◌, ◌<◌, ◌≤◌, IsTrue, refl, ap, ◌∙◌, arith, inl, inr, ℤ, pos}
+use Rattle.std.proofs.Math.Nat.{mul-le-mul_left, mul-le-mul_right, pow-suc, pow-zero, one-mul}
 use Rattle.std.proofs.lemmas.Bool.{cases_lt}
 use Rattle.std.proofs.lemmas.Int.{ints}
 use Rattle.std.proofs.lemmas.Nat.{pow-add}
 use Rattle.log_laws.specs.Between.{Ends}
 use Rattle.log_laws.specs.Whole.{ceil_quotient}
-use Rattle.log_laws.proofs.Exports.{ceil_over-pos, product_pos}
+use Rattle.log_laws.proofs.Exports.{ceil_over-pos}
 use Rattle.fix_interval.specs.Interval.{ends}
 use Rattle.case_types.specs.declared.cases.Case.{Case}
-use Rattle.case_types.specs.CaseWords.{critical_temperature, critical_pressure, interaction}
+use Rattle.case_types.specs.CaseWords.{critical_temperature, critical_pressure}
 use Rattle.case_types.specs.Faults.{covolumes_in_range}
 use Rattle.case_types.specs.Numbers.{lift_of}
 use Rattle.case_types.specs.Parameters.{cohesion_num, cohesion_den}
 use Rattle.pr_params.specs.Entries.{pressure_entry, bare_entry}
-use Rattle.pr_params.proofs.Components.{component_at, interaction_at_least, interaction_at_most, interaction_turned}
+use Rattle.pr_params.proofs.Components.{component_at, interaction_turned}
 use Rattle.pr_params.proofs.Lifts.{fits_at}
-use Rattle.pr_params.proofs.ParametersHold.{cohesion_natural, den_positive}
-use Rattle.pr_params.proofs.Pressures.{IsPressureRoot, pressure_sizes, pressure_turned}
-use Rattle.pr_params.proofs.Sizes.{ceiling_at_most}
+use Rattle.pr_params.proofs.Pressures.{pressure_sizes, pressure_turned}
 
 square : (t : ℕ) → t ^ 2 ≡ t * t
 square t = pow-suc t 1 ∙ ap (λ x. x * t) (pow-suc t 0 ∙ ap (λ x. x * t) (pow-zero t) ∙ one-mul t)

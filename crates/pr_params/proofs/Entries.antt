@@ -1,14 +1,12 @@
 -- The numbers of a case, entry by entry.
-use Rattle.std.proofs.Common.{◌≡◌, ℕ, zero, suc, ◌<◌, ◌++◌, List, [], ◌∷◌, refl, sym, ap, ◌∙◌, arith, ℤ, pos, ◌^◌, ◌*ℤ◌}
-use Rattle.std.specs.Int.{int_max}
+use Rattle.std.proofs.Common.{◌≡◌, ℕ, zero, suc, ◌<◌, refl, sym, ap, ◌∙◌, arith, ℤ, pos, ◌^◌, ◌*ℤ◌}
 use Rattle.log_laws.specs.Between.{Ends}
 use Rattle.log_laws.specs.LogE.{log_e_ends}
 use Rattle.log_laws.specs.Roots.{root_ends}
 use Rattle.log_laws.specs.Sums.{list_below, greatest_below}
 use Rattle.log_laws.specs.Whole.{ceil_div}
 use Rattle.case_types.specs.declared.cases.Case.{Case}
-use Rattle.case_types.specs.CaseWords.{critical_temperature}
-use Rattle.case_types.specs.Numbers.{Numbers, numbers_of, enclosures_of, lift_of, alpha_root_ends, attraction_ends, table_below, greatest_ratio}
+use Rattle.case_types.specs.Numbers.{Numbers, numbers_of, enclosures_of, lift_of, alpha_root_ends, attraction_ends, table_below}
 use Rattle.case_types.specs.Tables.{ends_at, ends_of_pair}
 use Rattle.pr_params.specs.Entries.{temperature_entry, alpha_entry, covolume_entry, pressure_entry, bare_entry, attraction_entry, ratio_entry}
 use Rattle.pr_params.proofs.AtComponents.{alpha_root_at, covolume_at, bare_attraction_at, attraction_at}
@@ -108,7 +106,14 @@ same_numbers c =
     rebuilt (numbers_of c) ∙ (rw (o.0, o.1, o.2, o.3, alphas_are c, covolumes_are c, bares_are c, attractions_are c, rho_is c) refl)
   where
     rebuilt : (p : Numbers) → p ≡ record {
-      count = p.count; lift = p.lift; root_two = p.root_two; log_e = p.log_e; alpha_roots = p.alpha_roots; covolumes = p.covolumes;
-      bare_attractions = p.bare_attractions; attractions = p.attractions; rho = p.rho;
+      count = p.count;
+      lift = p.lift;
+      root_two = p.root_two;
+      log_e = p.log_e;
+      alpha_roots = p.alpha_roots;
+      covolumes = p.covolumes;
+      bare_attractions = p.bare_attractions;
+      attractions = p.attractions;
+      rho = p.rho;
     }
     rebuilt p = refl

@@ -1,12 +1,12 @@
 -- How large the roots of alpha and the attractions of pairs are.
-use Rattle.std.proofs.Common.{◌≡◌, ℕ, suc, ◌+◌, ◌-◌, ◌*◌, ◌/◌, ◌^◌, ◌<◌, ◌≤◌, IsTrue, None, refl, sym, ap, ◌∙◌, arith, ℤ, pos, negsuc, neg_ℤ, ◌+ℤ◌, ◌-ℤ◌, ◌*ℤ◌, ◌≤ℤ◌, ◌<ℤ◌, unsigned_abs, lit<}
-use Rattle.std.specs.Int.{int_min, int_max}
+use Rattle.std.proofs.Common.{◌≡◌, ℕ, ◌+◌, ◌*◌, ◌/◌, ◌^◌, ◌<◌, ◌≤◌, IsTrue, arith, ℤ, pos, negsuc, neg_ℤ, ◌+ℤ◌, ◌-ℤ◌, ◌*ℤ◌, ◌≤ℤ◌, ◌<ℤ◌, unsigned_abs, lit<}
+use Rattle.std.specs.Int.{int_max}
 use Rattle.std.proofs.Math.Nat.{mul-le-mul, div-lt_iff_lt-mul, pow-le-pow_right}
 use Rattle.std.proofs.lemmas.Int.{ints, clamps}
 use Rattle.std.proofs.lemmas.Nat.{le-div}
 use Rattle.log_laws.specs.Between.{Ends}
-use Rattle.log_laws.specs.Roots.{root_floor, root_ceiling, ceiling_from}
-use Rattle.log_laws.specs.Whole.{floor_over, ceil_over, ceil_quotient}
+use Rattle.log_laws.specs.Roots.{root_floor}
+use Rattle.log_laws.specs.Whole.{ceil_over}
 use Rattle.log_laws.proofs.Exports.{ceil_over-pos, product_pos}
 use Rattle.root_enclose.proofs.RootDigits.{floor_root_is}
 use Rattle.root_enclose.proofs.Squares.{IsFloorRootOver, floor_root_over}
@@ -20,10 +20,9 @@ use Rattle.pr_params.proofs.Accepted.{bare_positive}
 use Rattle.pr_params.proofs.Bares.{bare_fits}
 use Rattle.pr_params.proofs.Components.{component_at, den_positive_at, interaction_at_least, interaction_at_most}
 use Rattle.pr_params.proofs.Lifts.{fits_at}
-use Rattle.pr_params.proofs.Made.{natural}
 use Rattle.pr_params.proofs.ParametersHold.{cohesion_natural, den_positive}
 use Rattle.pr_params.proofs.Pressures.{root_positive}
-use Rattle.pr_params.proofs.Signed.{product_at_most}
+use Rattle.pr_params.proofs.Signed.{natural, product_at_most}
 use Rattle.pr_params.proofs.Sizes.{ceiling_at_most, quotient_high}
 use Rattle.pr_params.proofs.Temperature.{root_small, ceiling_near}
 

@@ -1,5 +1,5 @@
 -- What four places hold is what the definitions say of a case.
-use Rattle.std.proofs.Common.{◌≡◌, ℕ, List, ℤ, refl, sym, ◌∙◌}
+use Rattle.std.proofs.Common.{◌≡◌, ℕ, List, ℤ, refl, sym}
 use Rattle.log_laws.specs.LogE.{log_e_ends}
 use Rattle.log_laws.specs.Roots.{root_ends}
 use Rattle.fix_interval.specs.declared.iv.Iv.{Iv}

@@ -5,7 +5,6 @@ pub mod Sizes
 pub mod Alpha
 pub mod Temperature
 pub mod Faulted
-pub mod Made
 pub mod Accepted
 pub mod Signed
 pub mod Mean

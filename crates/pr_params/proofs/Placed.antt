@@ -1,16 +1,15 @@
 -- What is computed of each component and of each pair is what the definitions say.
-use Rattle.std.proofs.Common.{◌≡◌, ℕ, ◌+◌, ◌*◌, ◌/◌, ◌^◌, ◌<◌, ◌≤◌, ℤ, pos, ◌+ℤ◌, ◌-ℤ◌, ◌*ℤ◌, ◌≤ℤ◌, refl, lit<, arith}
+use Rattle.std.proofs.Common.{◌≡◌, ℕ, ◌+◌, ◌*◌, ◌/◌, ◌^◌, ◌<◌, ◌≤◌, ℤ, pos, ◌+ℤ◌, ◌-ℤ◌, ◌*ℤ◌, refl, lit<, arith}
 use Rattle.std.proofs.Math.Nat.{mul-le-mul}
 use Rattle.std.specs.Int.{int_min, int_max}
-use Rattle.log_laws.specs.Between.{Ends}
 use Rattle.log_laws.specs.Whole.{floor_over, ceil_over, ceil_quotient}
 use Rattle.log_laws.proofs.Exports.{ceil_over-pos}
-use Rattle.fix_interval.specs.Interval.{ends, ends_of}
+use Rattle.fix_interval.specs.Interval.{ends}
 use Rattle.case_types.specs.declared.cases.Case.{Case}
 use Rattle.case_types.specs.CaseWords.{critical_temperature, critical_pressure, acentric_factor}
 use Rattle.case_types.specs.Numbers.{lift_of}
-use Rattle.case_types.specs.Parameters.{kappa_of, cohesion_num, cohesion_den}
-use Rattle.pr_params.specs.Entries.{temperature_entry, alpha_entry, covolume_entry, pressure_entry, bare_entry, attraction_entry, ratio_entry}
+use Rattle.case_types.specs.Parameters.{kappa_of}
+use Rattle.pr_params.specs.Entries.{temperature_entry, alpha_entry, covolume_entry, bare_entry, attraction_entry, ratio_entry}
 use Rattle.pr_params.proofs.Components.{den_positive_at}
 
 -- ---- of a component

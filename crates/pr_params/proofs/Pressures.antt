@@ -1,17 +1,17 @@
 -- The roots of the products of two critical pressures: where they stand, and how large they are.
-use Rattle.std.proofs.Common.{◌≡◌, ℕ, zero, suc, ◌+◌, ◌-◌, ◌*◌, ◌/◌, ◌^◌, ◌<◌, ◌≤◌, List, [], ◌∷◌, get_or, length, refl, sym, ap, ◌∙◌, arith, inl, inr, ℤ, pos, ◌≤ℤ◌, lit<}
+use Rattle.std.proofs.Common.{◌≡◌, ℕ, ◌+◌, ◌*◌, ◌/◌, ◌^◌, ◌<◌, ◌≤◌, List, [], ◌∷◌, get_or, length, refl, sym, ap, ◌∙◌, arith, inl, inr, pos, ◌≤ℤ◌, lit<}
 use Rattle.std.proofs.Math.Nat.{mul-le-mul, div-lt_iff_lt-mul}
 use Rattle.std.proofs.lemmas.Bool.{cases_lt}
 use Rattle.std.proofs.lemmas.Int.{ints}
 use Rattle.std.proofs.lemmas.List.{get_or-map}
 use Rattle.log_laws.specs.Between.{Ends}
-use Rattle.log_laws.specs.Roots.{root_ends, root_floor, root_ceiling, ceiling_from}
+use Rattle.log_laws.specs.Roots.{root_ends, root_floor, ceiling_from}
 use Rattle.root_enclose.proofs.RootDigits.{floor_root_is}
 use Rattle.root_enclose.proofs.Squares.{IsFloorRootOver, floor_root_over, ceiling_fits}
 use Rattle.case_types.specs.declared.cases.Case.{Case}
 use Rattle.case_types.specs.CaseWords.{critical_pressure}
 use Rattle.case_types.specs.Instances.{pair_place}
-use Rattle.case_types.specs.Numbers.{pressure_root_ends, pressure_root_of, enclosures_of}
+use Rattle.case_types.specs.Numbers.{pressure_root_ends, enclosures_of}
 use Rattle.case_types.specs.Tables.{ends_at, no_ends}
 use Rattle.fix_interval.specs.declared.iv.Iv.{Iv}
 use Rattle.fix_interval.specs.Interval.{ends_of}

@@ -1,5 +1,5 @@
 -- Arrays of four that hold numbers of live components.
-use Rattle.std.proofs.Common.{◌≡◌, ℕ, zero, suc, ◌<◌, ◌≤◌, ◌&&◌, nat_lt, cond, List, [], ◌∷◌, length, get_or, map, take, refl, sym, ap, ◌∙◌, arith, lit<, true}
+use Rattle.std.proofs.Common.{◌≡◌, ℕ, zero, suc, ◌<◌, ◌≤◌, List, [], ◌∷◌, length, get_or, map, take, refl, sym, ap, ◌∙◌, arith}
 use Rattle.std.proofs.lemmas.List.{take-map, get_or-map, length-map}
 use Rattle.log_laws.specs.Between.{Ends}
 use Rattle.log_laws.specs.Sums.{list_below}

@@ -1,5 +1,5 @@
 -- The numbers of a case by component and by pair, and the arrays of four that hold them.
-use Rattle.std.specs.Prelude.{ℕ, ◌^◌, List, [], ◌∷◌, Bool, ◌&&◌, cond, nat_lt, ℤ, pos, ◌*ℤ◌, map}
+use Rattle.std.specs.Prelude.{ℕ, ◌^◌, List, [], ◌∷◌, ◌&&◌, cond, nat_lt, ℤ, pos, ◌*ℤ◌, map}
 use Rattle.log_laws.specs.Between.{Ends}
 use Rattle.log_laws.specs.Roots.{root_ends}
 use Rattle.log_laws.specs.Whole.{ceil_div}

@@ -184,8 +184,8 @@ impl Bases {
         let covolume = self.covolume_lo(i);
         let mut greatest = 0;
         for j in 0..self.case.n as usize {
-            let (_, hi) = self.attraction(i, j);
-            greatest = ratio_of(hi, covolume).max(greatest);
+            let (_, attraction) = self.attraction(i, j);
+            greatest = ratio_of(attraction, covolume).max(greatest);
         }
         greatest
     }

@@ -29,24 +29,6 @@ pub fn covolume_den(pc: u32, t: u32) -> u128
     5000 * pc as u128 * t as u128
 }
 
-/// How many bits `num / den` can be raised by and stay at most 32, but 29 bits at most.
-pub fn lift_of(num: u128, den: u128) -> u32
-    requires num { num < 2 ^ 56 }
-    requires den { den < 2 ^ 59 }
-    requires range { num ≤ 32 * den }
-    ensures small { result ≤ 29 }
-    ensures lifted { num * 2 ^ result ≤ 32 * den }
-    ensures greatest { result < 29 → 32 * den < num * 2 ^ (result + 1) }
-{
-    let mut lift = 0;
-    let mut lifted = num;
-    while lift < 29 && 2 * lifted <= 32 * den {
-        lift += 1;
-        lifted = 2 * lifted;
-    }
-    lift
-}
-
 /// The ends of `num / den`, in `2^-(56+lift)`.
 pub fn covolume(num: u128, den: u128, lift: u32) -> Iv
     requires positive { 1 ≤ den }

@@ -1,4 +1,4 @@
-use Rattle.std.proofs.Common.{◌≡◌, sym, ◌∙◌}
+use Rattle.std.proofs.Common.{sym, ◌∙◌}
 use Rattle.pr_params.specs.Entries.{temperature_entry, alpha_entry}
 use Rattle.pr_params.proofs.Slots.{live_yes, live_no}
 use Rattle.pr_params.proofs.by_component.roots_or_none.Goals as goal

@@ -1,5 +1,4 @@
-use Rattle.std.proofs.Common.{◌≡◌, true, sym, ◌∙◌, ap, arith}
-use Rattle.log_laws.specs.Sums.{all_below}
+use Rattle.std.proofs.Common.{◌≡◌, sym, ◌∙◌, arith}
 use Rattle.pr_params.proofs.Below.{all_below_more, all_below_fails}
 use Rattle.pr_params.specs.Lifting.{is_tiny}
 use Rattle.pr_params.proofs.lifting.all_are_tiny.Goals as goal

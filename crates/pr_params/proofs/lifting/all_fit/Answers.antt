@@ -1,5 +1,4 @@
-use Rattle.std.proofs.Common.{◌≡◌, true, sym, ◌∙◌, ap, arith}
-use Rattle.log_laws.specs.Sums.{all_below}
+use Rattle.std.proofs.Common.{◌≡◌, sym, ◌∙◌, arith}
 use Rattle.pr_params.proofs.Below.{all_below_more, all_below_fails}
 use Rattle.case_types.specs.Numbers.{fits_lifted}
 use Rattle.pr_params.proofs.lifting.all_fit.Goals as goal

@@ -1,4 +1,3 @@
-use Rattle.std.proofs.Common.{◌≡◌, sym, ◌∙◌}
 use Rattle.pr_params.proofs.Lifts.{range_is}
 use Rattle.pr_params.proofs.lifting.are_in_range.Goals as goal
 

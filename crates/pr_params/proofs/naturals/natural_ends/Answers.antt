@@ -1,4 +1,4 @@
-use Rattle.std.proofs.Common.{◌≡◌, ◌≤ℤ◌, pos, ap, arith, ℤ, ◌∙◌, unsigned_abs}
+use Rattle.std.proofs.Common.{◌≤ℤ◌, pos, arith}
 use Rattle.std.proofs.lemmas.Int.{ints}
 use Rattle.pr_params.proofs.Signed.{natural_fits, natural_value}
 use Rattle.pr_params.proofs.naturals.natural_ends.Goals as goal

@@ -1,4 +1,3 @@
-use Rattle.std.proofs.Common.{◌≤◌, arith}
 use Rattle.pr_params.proofs.Placed.{attraction_made, attraction_ordered}
 use Rattle.pr_params.proofs.bases.Bases.attraction.Goals as goal
 

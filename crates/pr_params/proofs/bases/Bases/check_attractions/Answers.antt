@@ -1,4 +1,3 @@
-use Rattle.std.proofs.Common.{◌≡◌, arith}
 use Rattle.std.proofs.lemmas.Result.{err_from_is_err_and}
 use Rattle.case_types.specs.Faults.{first_below, attraction_fault}
 use Rattle.case_types.specs.Numbers.{numbers_of}

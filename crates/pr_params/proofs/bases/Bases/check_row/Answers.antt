@@ -1,5 +1,4 @@
-use Rattle.std.proofs.Common.{◌≡◌, ◌+◌, ◌≤◌, ◌<◌, ap, arith}
-use Rattle.std.proofs.lemmas.Int.{ints, clamps}
+use Rattle.std.proofs.Common.{◌+◌, ap}
 use Rattle.log_laws.specs.Between.{Ends}
 use Rattle.case_types.specs.declared.cases.ParamFault.TheVariants.{ARange}
 use Rattle.case_types.specs.Faults.{attraction_fault}

@@ -1,4 +1,4 @@
-use Rattle.std.proofs.Common.{◌≡◌, ◌≤◌, pos, arith}
+use Rattle.std.proofs.Common.{pos, arith}
 use Rattle.log_laws.specs.Sums.{greatest_below}
 use Rattle.pr_params.specs.Entries.{ratio_entry}
 use Rattle.pr_params.proofs.Below.{greatest_more, greatest_none}

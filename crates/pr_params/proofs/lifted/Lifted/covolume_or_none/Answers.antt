@@ -1,4 +1,4 @@
-use Rattle.std.proofs.Common.{◌≡◌, sym, ◌∙◌}
+use Rattle.std.proofs.Common.{sym, ◌∙◌}
 use Rattle.pr_params.specs.Entries.{covolume_entry}
 use Rattle.pr_params.proofs.Lifts.{fits_at}
 use Rattle.pr_params.proofs.Placed.{covolume_made}
