@@ -1,5 +1,5 @@
 -- What a test, a list and a search over the numbers below n say of one of them.
-use Rattle.std.proofs.Common.{◌≡◌, ℕ, zero, suc, ◌+◌, ◌<◌, Bool, true, false, ◌&&◌, IsTrue, [], ◌∷◌, length, get_or, Option, None, Some, refl, ◌∙◌, ap, arith, inl, inr, length-append, add-one, ℤ, pos, max}
+use Rattle.std.proofs.Common.{◌≡◌, ℕ, zero, suc, ◌+◌, ◌<◌, ◌≤◌, Bool, true, false, ◌&&◌, IsTrue, [], ◌∷◌, length, get_or, Option, None, Some, refl, ◌∙◌, ap, arith, inl, inr, length-append, add-one, ℤ, pos, max}
 use Rattle.std.proofs.lemmas.Int.{ints, clamps}
 use Rattle.std.proofs.lemmas.Bool.{cases_lt}
 use Rattle.std.proofs.lemmas.List.{get_or_append_left}
@@ -17,6 +17,19 @@ all_below_at (suc n) p i h t =
       | inl less ↦ all_below_at n p i less both.0
       | inr more ↦ let e : i ≡ n = omega (arith, h, more) in rw e both.1
     ]
+
+-- a test that holds of each number below n holds of all
+pub all_below_from : (n : ℕ) (p : ℕ → Bool) → ((i : ℕ) → i < n → IsTrue (p i)) → IsTrue (all_below n p)
+all_below_from zero p h = refl
+all_below_from (suc n) p h = both (all_below n p) (p n) (all_below_from n p (λ i l. h i (omega (arith, l)))) (h n (omega arith))
+  where
+    both : (a b : Bool) → IsTrue a → IsTrue b → IsTrue (a && b)
+    both true b t u = u
+    both false b t u = t
+
+-- a test that holds below m holds below a lesser number
+pub all_below_less : (n m : ℕ) (p : ℕ → Bool) → n ≤ m → IsTrue (all_below m p) → IsTrue (all_below n p)
+all_below_less n m p h t = all_below_from n p (λ i l. all_below_at m p i (omega (arith, h, l)) t)
 
 -- a test that holds below n and at n holds below n + 1
 pub all_below_more : (n : ℕ) (p : ℕ → Bool) → all_below n p ≡ true → p n ≡ true → all_below (n + 1) p ≡ true

@@ -15,11 +15,17 @@ mod lambdas;
 mod lifted;
 mod lifting;
 mod making;
+#[cfg(test)]
+mod mixtures;
 mod naturals;
 mod numbers;
 mod pulls;
 mod ranges;
 mod readers;
+#[cfg(test)]
+mod sample_numbers;
+#[cfg(test)]
+mod samples;
 #[cfg(test)]
 mod tests;
 
