@@ -15,7 +15,7 @@ use Rattle.case_types.specs.Numbers.{lift_of}
 use Rattle.case_types.specs.Parameters.{cohesion_num, cohesion_den}
 use Rattle.pr_params.specs.Entries.{pressure_entry, bare_entry}
 use Rattle.pr_params.proofs.Components.{component_at, interaction_turned}
-use Rattle.pr_params.proofs.Lifts.{fits_at}
+use Rattle.pr_params.proofs.CommonLift.{fits_at}
 use Rattle.pr_params.proofs.Pressures.{pressure_sizes, pressure_turned}
 
 square : (t : ℕ) → t ^ 2 ≡ t * t

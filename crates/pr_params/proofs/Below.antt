@@ -40,6 +40,11 @@ pub all_below_same : (n : ℕ) (p q : ℕ → Bool) → ((i : ℕ) → p i ≡ q
 all_below_same zero p q h = refl
 all_below_same (suc n) p q h = rw (all_below_same n p q h, h n) refl
 
+-- two tests of which the second fails don't hold together
+pub and_false : (b : Bool) → (b && false) ≡ false
+and_false true = refl
+and_false false = refl
+
 -- a test that fails somewhere doesn't hold of all
 pub all_below_fails : (n : ℕ) (p : ℕ → Bool) (i : ℕ) → i < n → p i ≡ false → all_below n p ≡ false
 all_below_fails zero p i h f = absurd (omega (arith, h))
@@ -48,10 +53,6 @@ all_below_fails (suc n) p i h f =
       | inl less ↦ rw (all_below_fails n p i less f) refl
       | inr more ↦ let e : n ≡ i = omega (arith, h, more) in rw (e, f) (and_false (all_below i p))
     ]
-  where
-    and_false : (b : Bool) → (b && false) ≡ false
-    and_false true = refl
-    and_false false = refl
 
 -- a list over the numbers below n has n items
 length-list_below : {X : Type 0} → (n : ℕ) (f : ℕ → X) → length (list_below n f) ≡ n

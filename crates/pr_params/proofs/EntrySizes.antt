@@ -19,7 +19,7 @@ use Rattle.pr_params.specs.Entries.{temperature_entry, alpha_entry, covolume_ent
 use Rattle.pr_params.proofs.Accepted.{bare_positive}
 use Rattle.pr_params.proofs.Bares.{bare_fits}
 use Rattle.pr_params.proofs.Components.{component_at, den_positive_at, interaction_at_least, interaction_at_most}
-use Rattle.pr_params.proofs.Lifts.{fits_at}
+use Rattle.pr_params.proofs.CommonLift.{fits_at}
 use Rattle.pr_params.proofs.ParametersHold.{cohesion_natural, den_positive}
 use Rattle.pr_params.proofs.Pressures.{root_positive}
 use Rattle.pr_params.proofs.Signed.{natural, product_at_most}

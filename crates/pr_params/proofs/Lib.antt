@@ -22,7 +22,7 @@ pub mod ParametersHold
 pub mod MeansHold
 pub mod GreatestLift
 pub mod Ratios
-pub mod Lifts
+pub mod CommonLift
 pub mod Slots
 pub mod Entries
 pub mod Placed

@@ -1,5 +1,6 @@
 -- Arrays of four that hold numbers of live components.
-use Rattle.std.proofs.Common.{◌≡◌, ℕ, zero, suc, ◌<◌, ◌≤◌, List, [], ◌∷◌, length, get_or, map, take, refl, sym, ap, ◌∙◌, arith}
+use Rattle.std.proofs.Common.{◌≡◌, ℕ, zero, suc, ◌<◌, ◌≤◌, nat_lt, List, [], ◌∷◌, length, get_or, map, take, refl, sym, ap, ◌∙◌, arith, inl, inr}
+use Rattle.std.proofs.lemmas.Bool.{cases_lt}
 use Rattle.std.proofs.lemmas.List.{take-map, get_or-map, length-map}
 use Rattle.log_laws.specs.Between.{Ends}
 use Rattle.log_laws.specs.Sums.{list_below}
@@ -7,8 +8,10 @@ use Rattle.fix_interval.specs.declared.iv.Iv.{Iv}
 use Rattle.fix_interval.specs.Interval.{ends_of}
 use Rattle.case_types.specs.Numbers.{table_below}
 use Rattle.case_types.specs.Printed.{ends_in}
-use Rattle.case_types.specs.Tables.{no_ends}
+use Rattle.case_types.specs.Tables.{no_ends, ends_of_pair}
 use Rattle.pr_params.specs.Entries.{four, live_ends, live_pair, ends_of_all, ends_of_table, filled, filled_table}
+use Rattle.pr_params.specs.Kept.{IsVacant, IsVacantTable}
+use Rattle.pr_params.proofs.Below.{and_false}
 use Rattle.pr_params.proofs.Faulted.{lt_yes, lt_no}
 
 -- ---- a component is live or it isn't
@@ -28,6 +31,14 @@ four_at f d (suc zero) h = refl
 four_at f d (suc (suc zero)) h = refl
 four_at f d (suc (suc (suc zero))) h = refl
 four_at f d (suc (suc (suc (suc i)))) h = absurd (omega (arith, h))
+
+-- and past the fourth
+past_four : {X : Type 0} → (f : ℕ → X) (d : X) (i : ℕ) → 4 ≤ i → get_or (four f) i d ≡ d
+past_four f d zero h = absurd (omega (arith, h))
+past_four f d (suc zero) h = absurd (omega (arith, h))
+past_four f d (suc (suc zero)) h = absurd (omega (arith, h))
+past_four f d (suc (suc (suc zero))) h = absurd (omega (arith, h))
+past_four f d (suc (suc (suc (suc i)))) h = refl
 
 -- four intervals hold the ends of f below n
 pub slot_at : (n : ℕ) (f : ℕ → Ends) (vs : List Iv) (d : Iv) (i : ℕ) → n ≤ 4 → ends_of_all vs ≡ filled n f → i < n → ends_of (get_or vs i d) ≡ f i
@@ -91,3 +102,38 @@ table_taken n f rows h e =
     rows_taken n (take n rows)
     ∙ ap (λ (xs : List (List Ends)). map (λ (ys : List Ends). take n ys) xs) (sym (take-map ends_of_all n rows) ∙ ap (λ (xs : List (List Ends)). take n xs) e)
     ∙ table_of n f h
+
+-- ---- from n on there is nothing
+filled_past : (n : ℕ) (f : ℕ → Ends) (i : ℕ) → n ≤ i → get_or (filled n f) i no_ends ≡ no_ends
+filled_past n f i h =
+    elim (cases_lt i 4) [
+      | inl less ↦ four_at (live_ends n f) no_ends i less ∙ live_no n f i h
+      | inr more ↦ past_four (live_ends n f) no_ends i more
+    ]
+
+pub vacant : (n : ℕ) (f : ℕ → Ends) (vs : List Iv) → ends_of_all vs ≡ filled n f → IsVacant n vs
+vacant n f vs e = record { at = λ i h. ap (λ (xs : List Ends). get_or xs i no_ends) e ∙ filled_past n f i h }
+
+table_past : (n : ℕ) (f : ℕ → ℕ → Ends) (i j : ℕ) → live_pair n f i j ≡ no_ends → ends_of_pair (filled_table n f) i j ≡ no_ends
+table_past n f i j e =
+    elim (cases_lt i 4) [
+      | inl less ↦
+          ap (λ (row : List Ends). get_or row j no_ends) (four_at (λ i. four (live_pair n f i)) [] i less)
+          ∙ elim (cases_lt j 4) [
+            | inl short ↦ four_at (live_pair n f i) no_ends j short ∙ e
+            | inr long ↦ past_four (live_pair n f i) no_ends j long
+          ]
+      | inr more ↦ ap (λ (row : List Ends). get_or row j no_ends) (past_four (λ i. four (live_pair n f i)) [] i more)
+    ]
+
+pub vacant_table : (n : ℕ) (f : ℕ → ℕ → Ends) (rows : List (List Iv)) → ends_of_table rows ≡ filled_table n f → IsVacantTable n rows
+vacant_table n f rows e = record {
+  row_at = λ i j h. ap (λ (xs : List (List Ends)). ends_of_pair xs i j) e ∙ table_past n f i j (no_row i j h);
+  column_at = λ i j h. ap (λ (xs : List (List Ends)). ends_of_pair xs i j) e ∙ table_past n f i j (no_column i j h);
+}
+  where
+    no_row : (i j : ℕ) → n ≤ i → live_pair n f i j ≡ no_ends
+    no_row i j h = rw (lt_no i n h) refl
+
+    no_column : (i j : ℕ) → n ≤ j → live_pair n f i j ≡ no_ends
+    no_column i j h = rw (lt_no j n h, and_false (nat_lt i n)) refl

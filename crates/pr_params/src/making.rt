@@ -6,7 +6,7 @@ ghost use Rattle.case_types.specs.Holding.{HoldsParameters};
 ghost use Rattle.case_types.specs.Instances.{AreRight, Instance, IsInstance};
 ghost use Rattle.case_types.specs.Numbers.{numbers_of, enclosures_of};
 ghost use Rattle.case_types.specs.Printed.{enclosures_in};
-ghost use Rattle.pr_params.specs.Kept.{numbers_kept, IsGreatestLift};
+ghost use Rattle.pr_params.specs.Kept.{numbers_kept, AreVacant, IsGreatestLift};
 
 use crate::bases::{Bases, check_alphas};
 use crate::by_component::roots;
@@ -27,6 +27,7 @@ pub fn params(case: &Case) -> Result<Params, ParamFault>
     ensures right { IfOk result (λ p. AreRight case.now (enclosures_in p.case.n p.two p.e p.t p.q)) }
     ensures lift { IfOk result (λ p. IsGreatestLift case.now 29 p.lift) }
     ensures numbers { IfOk result (λ p. numbers_kept p ≡ numbers_of case.now) }
+    ensures vacant { IfOk result (λ p. AreVacant p) }
     ensures holds { IfOk result (λ p. (x : Instance) →
         IsInstance case.now (enclosures_in p.case.n p.two p.e p.t p.q) x → HoldsParameters case.now (numbers_kept p) x) }
 {

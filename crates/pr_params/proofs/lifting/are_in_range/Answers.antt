@@ -1,4 +1,4 @@
-use Rattle.pr_params.proofs.Lifts.{range_is}
+use Rattle.pr_params.proofs.CommonLift.{range_is}
 use Rattle.pr_params.proofs.lifting.are_in_range.Goals as goal
 
 pub returns-then-all_fit : goal.returns-then-all_fit

@@ -5,12 +5,13 @@ use Rattle.std.proofs.lemmas.Result.{err_from_is_err_and}
 use Rattle.case_types.specs.declared.cases.Case.{Case}
 use Rattle.case_types.specs.Numbers.{lift_of, enclosures_of}
 use Rattle.case_types.specs.Faults.{fault_of}
-use Rattle.pr_params.specs.Entries.{covolume_entry, bare_entry, filled, filled_table}
+use Rattle.pr_params.specs.Entries.{temperature_entry, alpha_entry, covolume_entry, bare_entry, attraction_entry, filled, filled_table}
 use Rattle.pr_params.proofs.Filled.{numbers_filled, pairs_filled}
 use Rattle.pr_params.proofs.FirstFault.{range_fault, ratio_fault, alpha_first, attractions_decide}
 use Rattle.pr_params.proofs.GreatestLift.{lift_greatest}
 use Rattle.pr_params.proofs.ParametersHold.{holds_parameters}
 use Rattle.pr_params.proofs.Right.{enclosures_right}
+use Rattle.pr_params.proofs.Slots.{vacant, vacant_table}
 use Rattle.pr_params.proofs.making.params.Goals as goal
 use Rattle.pr_params.proofs.making.params.Goals.{After-greatest_ratio, In_ok-check_attractions}
 
@@ -78,3 +79,15 @@ returns-clause-lift c =
 
 pub returns-clause-holds : goal.returns-clause-holds
 returns-clause-holds c = λ x instance. let kept = invariant_of-result (goal.at.returns-clause-holds c).After-greatest_ratio in rw kept.right (holds_parameters c.args.case.now x kept.accepted (rw kept.printed at instance))
+
+pub returns-clause-vacant : goal.returns-clause-vacant
+returns-clause-vacant c =
+    let case = c.args.case.now in
+    let same = c.lift_case-lifted.ensures in
+    record {
+      temperature_roots = vacant case.n (temperature_entry case) c.roots.result.0 c.roots.ensures.temperatures;
+      alpha_roots = vacant case.n (alpha_entry case) c.roots.result.1 c.roots.ensures.alphas;
+      covolumes = vacant case.n (covolume_entry case) c.covolumes.result (c.covolumes.ensures ∙ ap (λ (x : Case). filled x.n (covolume_entry x)) same);
+      bare_attractions = vacant_table case.n (bare_entry case) c.bare_attractions.result (c.bare_attractions.ensures ∙ ap (λ (x : Case). filled_table x.n (bare_entry x)) same);
+      attractions = vacant_table case.n (attraction_entry case) c.attractions.result c.attractions.ensures;
+    }

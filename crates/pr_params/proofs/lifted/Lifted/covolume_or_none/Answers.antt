@@ -1,6 +1,6 @@
 use Rattle.std.proofs.Common.{sym, ◌∙◌}
 use Rattle.pr_params.specs.Entries.{covolume_entry}
-use Rattle.pr_params.proofs.Lifts.{fits_at}
+use Rattle.pr_params.proofs.CommonLift.{fits_at}
 use Rattle.pr_params.proofs.Placed.{covolume_made}
 use Rattle.pr_params.proofs.Slots.{live_yes, live_no}
 use Rattle.pr_params.proofs.lifted.Lifted.covolume_or_none.Goals as goal
