@@ -44,20 +44,21 @@ greatest_same zero f g first h = refl
 greatest_same (suc n) f g first h = rw (greatest_same n f g first (λ i l. h i (omega (arith, l))), h n (omega arith)) refl
 
 -- ---- all numbers
-abbrev pub greatest_entry : Case → ℤ
-greatest_entry c = greatest_below c.n (λ i. greatest_below c.n (ratio_entry c i) (pos 0)) (pos 0)
+abbrev pub greatest_entry : Case → ℕ → ℤ
+greatest_entry c n = greatest_below n (λ i. greatest_below n (ratio_entry c i) (pos 0)) (pos 0)
 
-abbrev pub numbers_by_entry : Case → Numbers
-numbers_by_entry c = record {
-  count = c.n;
+-- those of the first n components
+abbrev pub numbers_below : Case → ℕ → Numbers
+numbers_below c n = record {
+  count = n;
   lift = lift_of c;
   root_two = root_ends 2 1 60;
   log_e = log_e_ends;
-  alpha_roots = list_below c.n (alpha_entry c);
-  covolumes = list_below c.n (covolume_entry c);
-  bare_attractions = table_below c.n (bare_entry c);
-  attractions = table_below c.n (attraction_entry c);
-  rho = greatest_entry c;
+  alpha_roots = list_below n (alpha_entry c);
+  covolumes = list_below n (covolume_entry c);
+  bare_attractions = table_below n (bare_entry c);
+  attractions = table_below n (attraction_entry c);
+  rho = greatest_entry c n;
 }
 
 alphas_are : (c : Case) → (numbers_of c).alpha_roots ≡ list_below c.n (alpha_entry c)
@@ -86,7 +87,7 @@ ratio_is : (c : Case) (i j : ℕ) → i < c.n → j < c.n →
 unfolding ratio_entry
 ratio_is c i j h g = rw (attraction_is c i j h g, covolume_is c i h) refl
 
-rho_is : (c : Case) → (numbers_of c).rho ≡ greatest_entry c
+rho_is : (c : Case) → (numbers_of c).rho ≡ greatest_entry c c.n
 unfolding numbers_of
 rho_is c =
     greatest_same c.n
@@ -100,7 +101,7 @@ others_are : (c : Case) → ((numbers_of c).count ≡ c.n) × ((numbers_of c).li
 unfolding numbers_of enclosures_of
 others_are c = (refl, refl, refl, refl)
 
-pub same_numbers : (c : Case) → numbers_of c ≡ numbers_by_entry c
+pub same_numbers : (c : Case) → numbers_of c ≡ numbers_below c c.n
 same_numbers c =
     let o = others_are c in
     rebuilt (numbers_of c) ∙ (rw (o.0, o.1, o.2, o.3, alphas_are c, covolumes_are c, bares_are c, attractions_are c, rho_is c) refl)

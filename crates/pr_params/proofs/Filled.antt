@@ -20,7 +20,7 @@ pub record AreFilled (c : Case) (lift : ℕ) (two e : Iv) (ms bs : List Iv) (hs 
   pub covolumes : ends_of_all bs ≡ filled c.n (covolume_entry c)
   pub bares : ends_of_table hs ≡ filled_table c.n (bare_entry c)
   pub attractions : ends_of_table «as» ≡ filled_table c.n (attraction_entry c)
-  pub ratio : rho ≡ greatest_entry c
+  pub ratio : rho ≡ greatest_entry c c.n
 
 pub numbers_filled : (c : Case) (lift : ℕ) (two e : Iv) (ms bs : List Iv) (hs «as» : List (List Iv)) (rho : ℤ) →
     AreFilled c lift two e ms bs hs «as» rho → numbers_in c.n lift two e ms bs hs «as» rho ≡ numbers_of c
