@@ -29,7 +29,8 @@ use Rattle.pr_params.proofs.Mean.{range_is, attraction_high_one, attraction_low_
 use Rattle.pr_params.proofs.One.{numbers_one}
 use Rattle.pr_params.proofs.AtComponents.{lift_of_numbers}
 use Rattle.pr_params.proofs.ParametersHold.{covolume_within, holds_parameters}
-use Rattle.pr_params.specs.One.{covolume_one, attraction_one, ratio_one}
+use Rattle.pr_params.specs.Entries.{covolume_entry, ratio_entry}
+use Rattle.pr_params.specs.One.{covolume_one, attraction_one}
 
 -- ---- the mean over one component is the value of that component
 mean_same : (p m : ℕ) (f : Fraction) → m ≡ p → 0 < p → 0 < f.den → IsSame f (sum_of (whole (pos 0)) (product_of (ratio p m) f))
@@ -149,7 +150,7 @@ record HoldsRatio (c : Case) (box : Box) (f : Fraction) : Type 0 where
 ratio_at : (c : Case) (box : Box) (n n' b b' au ad bu bd : ℕ) → c.n ≡ 1 → fault_of c ≡ None → IsAboutOne box →
     attraction_one c ≡ record { lo = pos n; hi = pos n' } → covolume_one c ≡ record { lo = pos b; hi = pos b' } → 0 < b →
     IsAmong n n' (2 ^ (49 + (numbers_of c).lift)) au ad → IsAmong b b' (2 ^ (56 + (numbers_of c).lift)) bu bd → HoldsRatio c box (ratio (au * bd) (ad * bu))
-unfolding ratio_one
+unfolding ratio_entry
 ratio_at c box n n' b b' au ad bu bd h e o ea eb some ka kb =
     let p = numbers_of c in
     let range = range_is c box h e ∙ eb in
@@ -188,7 +189,7 @@ ratio_held c box a b h e o ka kb =
 
 -- ---- the means of a phase
 covolume_one_within : (c : Case) → IsBetween (covolume_one c) (2 ^ (56 + (numbers_of c).lift)) (covolume c 0)
-unfolding covolume_one
+unfolding covolume_entry
 covolume_one_within c = rw (lift_of_numbers c) (covolume_within c (lift_of c) 0 c.some)
 
 pub mean_covolume_held : (c : Case) (box : Box) (f : State) → c.n ≡ 1 → fault_of c ≡ None → 0 < moles c.n f →
