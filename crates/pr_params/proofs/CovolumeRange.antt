@@ -41,8 +41,15 @@ rest_below (suc k) p l a b t g m inside less =
     let before = rest_below k p l a b t g m (λ i h. inside i (omega (arith, h))) (λ i h. less i (omega (arith, h))) in
     let corner = corner_least (t k) (a k) (b k) (p k * one) m at.above at.below in
     let here = mul-le_ℤ (t k +ℤ pos g) (pos (l k)) (p k * one) (less k (omega arith)) in
-    omega (arith, ints, before, corner, here, add-mul_ℤ (t k) (pos g) (pos (p k * one)),
-    add-mul_ℤ (int_sum_below k (λ i. int_min (t i *ℤ pos (a i)) (t i *ℤ pos (b i)))) (int_min (t k *ℤ pos (a k)) (t k *ℤ pos (b k))) (pos m))
+    omega (
+      arith,
+      ints,
+      before,
+      corner,
+      here,
+      add-mul_ℤ (t k) (pos g) (pos (p k * one)),
+      add-mul_ℤ (int_sum_below k (λ i. int_min (t i *ℤ pos (a i)) (t i *ℤ pos (b i)))) (int_min (t k *ℤ pos (a k)) (t k *ℤ pos (b k))) (pos m),
+    )
 
 rest_above : (k : ℕ) (p l a b : ℕ → ℕ) (t : ℕ → ℤ) (g m : ℕ) → ((i : ℕ) → i < k → IsInEnds (a i) (b i) (p i) m)
     → ((i : ℕ) → i < k → pos (l i) ≤ℤ (t i +ℤ pos g))
@@ -54,8 +61,15 @@ rest_above (suc k) p l a b t g m inside less =
     let before = rest_above k p l a b t g m (λ i h. inside i (omega (arith, h))) (λ i h. less i (omega (arith, h))) in
     let corner = corner_greatest (t k) (a k) (b k) (p k * one) m at.above at.below in
     let here = mul-le_ℤ (pos (l k)) (t k +ℤ pos g) (p k * one) (less k (omega arith)) in
-    omega (arith, ints, before, corner, here, add-mul_ℤ (t k) (pos g) (pos (p k * one)),
-    add-mul_ℤ (int_sum_below k (λ i. int_max (t i *ℤ pos (a i)) (t i *ℤ pos (b i)))) (int_max (t k *ℤ pos (a k)) (t k *ℤ pos (b k))) (pos m))
+    omega (
+      arith,
+      ints,
+      before,
+      corner,
+      here,
+      add-mul_ℤ (t k) (pos g) (pos (p k * one)),
+      add-mul_ℤ (int_sum_below k (λ i. int_max (t i *ℤ pos (a i)) (t i *ℤ pos (b i)))) (int_max (t k *ℤ pos (a k)) (t k *ℤ pos (b k))) (pos m),
+    )
 
 -- ---- what follows of the floor and of the ceiling
 -- w is at most (g one + rest) / one
