@@ -11,13 +11,14 @@ use Rattle.log_laws.proofs.Exports.{ceil_over-pos}
 use Rattle.fix_interval.specs.declared.iv.Iv.{Iv}
 use Rattle.fix_interval.specs.Interval.{ends_of}
 use Rattle.case_types.specs.declared.cases.Case.{Case}
-use Rattle.case_types.specs.CaseWords.{critical_pressure, interaction}
+use Rattle.case_types.specs.CaseWords.{interaction}
 use Rattle.case_types.specs.Faults.{fault_of}
 use Rattle.case_types.specs.Numbers.{Numbers, numbers_of, enclosures_of, lift_of, lift_up_to, fits_lifted, bare_attraction_ends}
 use Rattle.log_laws.specs.Sums.{all_below}
 use Rattle.pr_params.specs.declared.numbers.Params.{Params}
 use Rattle.case_types.specs.Printed.{ends_in}
-use Rattle.pr_params.specs.One.{num_one, den_one, bare_one, alpha_one, covolume_one, attraction_one, ratio_one}
+use Rattle.pr_params.specs.Entries.{attraction_entry, bare_entry, covolume_entry, pressure_entry, ratio_entry}
+use Rattle.pr_params.specs.One.{num_one, den_one, alpha_one, covolume_one, attraction_one, ratio_one}
 use Rattle.pr_params.proofs.Components.{interaction_at_most}
 use Rattle.pr_params.proofs.Lift.{lift_up_to_is}
 use Rattle.pr_params.proofs.One.{numbers_one}
@@ -101,7 +102,7 @@ e_exact c = refl
 -- ---- how large the co-volume is
 -- the co-volume lies from 2 ^ 60 to 2 ^ 61
 pub covolume_sizes : (c : Case) → c.n ≡ 1 → fault_of c ≡ None → (pos (2 ^ 60) ≤ℤ (covolume_one c).lo) × ((covolume_one c).hi ≤ℤ pos (2 ^ 61))
-unfolding covolume_one
+unfolding covolume_entry
 covolume_sizes c h e =
     let k = accepted_one c h e in
     let l = lift_up_to_is c 29 h k.small in
@@ -146,29 +147,27 @@ bare_high_positive c lift q i j h g =
     let rest : pos 0 ≤ℤ (pos 10000 -ℤ interaction c i j) = omega (arith, ints, k) in
     ceiling_positive _ _ (product_positive _ _ (product_positive _ _ rest (omega (arith, ints))) (omega (arith, ints)))
 
--- nor is that of one component
-bare_one_positive : (c : Case) → pos 0 ≤ℤ (bare_one c).lo
-unfolding bare_one
-bare_one_positive c =
-    let own = pos (critical_pressure c 0 * 2 ^ 32) in
-    bare_positive c (lift_of c) (record { lo = own; hi = own }) 0 0 c.some c.some
+-- nor is that of a component with itself
+bare_own_positive : (c : Case) → pos 0 ≤ℤ (bare_entry c 0 0).lo
+unfolding bare_entry
+bare_own_positive c = bare_positive c (lift_of c) (pressure_entry c 0 0) 0 0 c.some c.some
 
 -- the attraction isn't negative
 pub attraction_positive : (c : Case) → c.n ≡ 1 → fault_of c ≡ None → pos 0 ≤ℤ (attraction_one c).lo
-unfolding attraction_one
+unfolding attraction_entry
 attraction_positive c h e =
     let k = accepted_one c h e in
     let m : pos 0 ≤ℤ (alpha_one c).lo = omega (arith, ints, k.alpha) in
-    floor_positive _ _ (product_positive (bare_one c).lo _ (bare_one_positive c) (floor_positive _ _ (product_positive _ _ m m)))
+    floor_positive _ _ (product_positive (bare_entry c 0 0).lo _ (bare_own_positive c) (floor_positive _ _ (product_positive _ _ m m)))
 
 -- nor is its upper end
 pub attraction_high_positive : (c : Case) → pos 0 ≤ℤ (attraction_one c).hi
-unfolding attraction_one bare_one
+unfolding attraction_entry bare_entry
 attraction_high_positive c =
     let k = interaction_at_most c 0 0 c.some c.some in
     let rest : pos 0 ≤ℤ (pos 10000 -ℤ interaction c 0 0) = omega (arith, ints, k) in
     let bare = ceiling_positive _ _ (product_positive _ _ (product_positive _ _ rest (omega (arith, ints))) (omega (arith, ints))) in
-    ceiling_positive _ _ (product_positive (bare_one c).hi _ bare (ceiling_positive _ _ (square_positive (alpha_one c).hi)))
+    ceiling_positive _ _ (product_positive (bare_entry c 0 0).hi _ bare (ceiling_positive _ _ (square_positive (alpha_one c).hi)))
 
 -- ---- the attraction over the co-volume
 -- the ceiling of a ratio of at most 1, in 2 ^ -47, lies from 0 to 2 ^ 47
@@ -187,7 +186,7 @@ attraction_in p = get_or (get_or p.a 0 []) 0 p.two
 
 -- the greatest ratio lies from 0 to 2 ^ 47
 pub rho_sizes : (p : Params) → p.case.n ≡ 1 → (pos 0 ≤ℤ p.rho) × (p.rho ≤ℤ pos (2 ^ 47))
-unfolding ratio_one
+unfolding ratio_entry
 rho_sizes p h =
     let low = attraction_positive p.case h p.accepted in
     let size = covolume_sizes p.case h p.accepted in

@@ -1,5 +1,5 @@
 -- How large the numbers of an accepted case are, for any number of components.
-use Rattle.std.proofs.Common.{◌≡◌, ℕ, zero, suc, ◌+◌, ◌*◌, ◌/◌, ◌^◌, ◌<◌, ◌≤◌, Bool, true, false, ◌&&◌, not, nat_le, nat_lt, IsTrue, IsFalse, inl, inr, refl, sym, ap, arith, lit<, ℤ, pos, ◌*ℤ◌, ◌≤ℤ◌, None}
+use Rattle.std.proofs.Common.{◌≡◌, ℕ, zero, suc, ◌+◌, ◌*◌, ◌/◌, ◌^◌, ◌<◌, ◌≤◌, Bool, true, false, ◌&&◌, not, nat_le, nat_lt, IsTrue, IsFalse, inl, inr, refl, ap, arith, lit<, ℤ, pos, ◌≤ℤ◌, None}
 use Rattle.std.proofs.lemmas.Bool.{cases_lt}
 use Rattle.std.specs.Int.{int_min, int_max}
 use Rattle.std.proofs.lemmas.Int.{ints, clamps}
@@ -12,7 +12,7 @@ use Rattle.log_laws.proofs.Exports.{ceil_over-pos, floor_over-le, le-ceil_over}
 use Rattle.case_types.specs.declared.cases.Case.{Case}
 use Rattle.case_types.specs.CaseWords.{critical_temperature, critical_pressure}
 use Rattle.case_types.specs.Faults.{fault_of, covolumes_in_range, covolumes_are_near}
-use Rattle.case_types.specs.Numbers.{numbers_of, lift_of, covolume_ends, fits_lifted, greatest_ratio, pressure_root_of, enclosures_of, alpha_root_ends, alpha_slope}
+use Rattle.case_types.specs.Numbers.{numbers_of, lift_of, fits_lifted, greatest_ratio, pressure_root_of, enclosures_of, alpha_root_ends, alpha_slope}
 use Rattle.case_types.specs.Tables.{ends_at, ends_of_pair}
 use Rattle.pr_params.proofs.Accepted.{floor_positive, ceiling_positive, product_positive, bare_positive, bare_high_positive}
 use Rattle.pr_params.proofs.AllMeans.{AreUsable}
@@ -165,7 +165,7 @@ attraction_least c i j e h k =
     (floor_positive _ _ (product_positive _ _ bare (floor_positive _ _ (product_positive _ _ (root _ first) (root _ second)))))
 
 -- the ends of a root of alpha are in order
-alpha_ordered : (c : Case) (t : Ends) (i : ℕ) → (alpha_root_ends c t i).lo ≤ℤ (alpha_root_ends c t i).hi
+pub alpha_ordered : (c : Case) (t : Ends) (i : ℕ) → (alpha_root_ends c t i).lo ≤ℤ (alpha_root_ends c t i).hi
 alpha_ordered c t i =
     let a = alpha_slope c i t.lo in
     let b = alpha_slope c i t.hi in

@@ -1,27 +1,27 @@
 -- The means of every composition of a box lie between the ends that the numbers give them, for any number of components.
-use Rattle.std.proofs.Common.{◌≡◌, ℕ, zero, suc, ◌+◌, ◌*◌, ◌/◌, ◌^◌, ◌<◌, ◌≤◌, ap, sym, subst, arith, ℤ, pos, ◌+ℤ◌, ◌*ℤ◌, ◌≤ℤ◌, lit<, ◌∙◌, slice_index}
+use Rattle.std.proofs.Common.{◌≡◌, ℕ, zero, suc, ◌+◌, ◌*◌, ◌/◌, ◌^◌, ◌<◌, ◌≤◌, ap, sym, subst, arith, ℤ, pos, negsuc, ◌*ℤ◌, ◌≤ℤ◌, lit<, ◌∙◌, slice_index}
 use Rattle.std.specs.Int.{int_min}
 use Rattle.std.proofs.lemmas.Int.{ints, clamps}
 use Rattle.std.proofs.lemmas.Nat.{pow-add, pow_pos}
-use Rattle.std.proofs.Math.Nat.{mul-le-mul_right, le_of_mul-le-mul_right}
+use Rattle.std.proofs.Math.Nat.{mul-le-mul_left, mul-le-mul_right, le_of_mul-le-mul_right, div-le_of_le-mul, zero-div}
 use Rattle.log_laws.specs.Between.{Ends, IsBetween}
 use Rattle.log_laws.specs.Fraction.{Fraction, IsAtMost, quotient_of}
 use Rattle.log_laws.specs.LogSum.{ratio}
 use Rattle.log_laws.specs.Sums.{sum_below, least_below, greatest_below}
-use Rattle.log_laws.specs.Whole.{positive_part, ceil_div, ceil_quotient}
-use Rattle.log_laws.proofs.Exports.{product_pos, scale_scale, le-ceil_over, mul-le_ℤ, ≤ℤ_trans}
-use Rattle.case_types.specs.Bounds.{Box, covolume_range, attraction_low, attraction_high, ratio_low, ratio_high}
+use Rattle.log_laws.specs.Whole.{positive_part, floor_div, ceil_div, ceil_quotient}
+use Rattle.log_laws.proofs.Exports.{product_pos, scale_scale, le-ceil_over, mul-le_ℤ, ≤ℤ_trans, sum_below-scaled}
+use Rattle.case_types.specs.Bounds.{Box, one, covolume_range, attraction_low, attraction_high, ratio_low, ratio_high}
 use Rattle.case_types.specs.Divisions.{bits}
 use Rattle.case_types.specs.Numbers.{Numbers, greatest_ratio}
 use Rattle.case_types.specs.Tables.{ends_at, ends_of_pair}
 use Rattle.pr_params.proofs.Attracted.{by_among, among_of_between}
 use Rattle.pr_params.proofs.Mean.{ratio_high_is, ratio_low_is}
 use Rattle.pr_params.proofs.RatioEnds.{quotient_above, quotient_below}
-use Rattle.pr_params.proofs.Sized.{ends_ordered}
+use Rattle.pr_params.proofs.Sized.{ends_ordered, cancelled}
 use Rattle.pr_params.proofs.Spread.{le-greatest, of_lesser, above_all}
 use Rattle.pr_params.proofs.Weighted.{IsOver, IsUnder, mean_by, mean_over, mean_under, under_greater}
-use Rattle.pr_params.proofs.CovolumeRange.{natural_is, over_end, under_end, high_of, AreInBox, range_holds}
-use Rattle.pr_params.proofs.AttractionRange.{shared_down, shared_up, shared_down_positive, shared_up_positive, mean_above, mean_below}
+use Rattle.pr_params.proofs.CovolumeRange.{natural_is, over_end, under_end, high_of, AreInBox, range_holds, HasLeastParts}
+use Rattle.pr_params.proofs.AttractionRange.{shared_down, shared_up, shared_below, shared_down_positive, shared_up_positive, mean_above, mean_below}
 
 -- ---- one quotient
 -- what is known of a mean attraction and of a mean co-volume: their ends, and a share of both in one sum
@@ -288,3 +288,53 @@ all_means n q b a x p m u h box =
       low_positive = rw low_ratio (omega (arith, ints));
       high_positive = rw high_ratio (omega (arith, ints, clamps, positive));
     }
+
+-- ---- the mean attraction at least, against co-volumes
+-- the floor of a number that is at most 0
+not_above_zero : (z : ℤ) (d : ℕ) → z ≤ℤ pos 0 → floor_div z (pos d) ≤ℤ pos 0
+not_above_zero (pos zero) d h = rw (zero-div d) (omega (arith, ints))
+not_above_zero (pos (suc n)) d h = absurd (omega (arith, ints, h))
+not_above_zero (negsuc n) d h = omega (arith, ints)
+
+-- the floor of at most one, in 2^-47
+pub floor_ratio_most : (a d : ℤ) → a ≤ℤ d → pos 1 ≤ℤ d → floor_div (a *ℤ pos (2 ^ 47)) d ≤ℤ pos (2 ^ 47)
+floor_ratio_most (pos a) (pos d) h k = let q = div-le_of_le-mul d (at_most_times a d h) in omega (arith, ints, q)
+  where
+    at_most_times : (a d : ℕ) → pos a ≤ℤ pos d → a * 2 ^ 47 ≤ d * 2 ^ 47
+    at_most_times a d h = omega (arith, ints, h)
+floor_ratio_most (negsuc a) (pos d) h k = let q = not_above_zero (negsuc a *ℤ pos (2 ^ 47)) d (omega (arith, ints)) in omega (arith, ints, q)
+floor_ratio_most a (negsuc d) h k = absurd (omega (arith, ints, k))
+
+-- where each attraction is at most the first co-volume, so is the mean
+pub least_attraction_below : (n : ℕ) (q : Numbers) (x : Box) (range : Ends) → AreUsable n q
+    → ((i j : ℕ) → i < n → j < n → (ends_of_pair q.attractions i j).lo ≤ℤ (ends_at q.covolumes i).lo)
+    → ((i : ℕ) → i < n → (ends_at q.covolumes i).lo ≤ℤ (ends_at q.covolumes i).hi) → HasLeastParts n q.covolumes x range
+    → low_by n q x ≤ℤ range.hi
+least_attraction_below n q x range u most order least =
+    let xl = slice_index x.lo in
+    let row : ℕ → ℤ = λ i. shared_down n xl (λ j. (ends_of_pair q.attractions i j).lo) in
+    let row_most : (i : ℕ) → i < n → row i ≤ℤ pos (positive_part (ends_at q.covolumes i).hi) =
+    λ i h.
+    (let z : ℕ → ℕ = λ j. positive_part (ends_of_pair q.attractions i j).lo in
+    let w = (ends_at q.covolumes i).hi in
+    let o = order i h in
+    let c = u.covolumes i h in
+    let below = shared_below n least.parts xl (λ j. (ends_of_pair q.attractions i j).lo) z one least.above (λ j g. natural_is (ends_of_pair q.attractions i j).lo (u.attractions i j h g)) in
+    let above : pos (sum_below n (λ j. least.parts j * z j)) ≤ℤ (w *ℤ pos one) =
+    subst (λ (k : ℕ). pos (sum_below n (λ j. least.parts j * z j)) ≤ℤ (w *ℤ pos k)) (sym least.all)
+    (above_all n least.parts z w
+    (λ j g. let m = most i j h g in let e = natural_is (ends_of_pair q.attractions i j).lo (u.attractions i j h g) in omega (arith, ints, m, e, o))) in
+    let all = cancelled (row i) w one (lit< tt) (≤ℤ_trans _ _ _ below above) in
+    let e = natural_is w (omega (arith, ints, o, c)) in
+    omega (arith, ints, all, e)) in
+    let z : ℕ → ℕ = λ i. positive_part (row i) in
+    let natural : (i : ℕ) → i < n → row i ≡ pos (z i) = λ i h. natural_is (row i) (low_row_positive n q x i u h) in
+    let below = shared_below n least.parts xl row z one least.above natural in
+    let less : sum_below n (λ i. least.parts i * z i) ≤ sum_below n (λ i. least.parts i * positive_part (ends_at q.covolumes i).hi) =
+    sums_below n (λ i. least.parts i * z i) (λ i. least.parts i * positive_part (ends_at q.covolumes i).hi)
+    (λ i h. mul-le-mul_left (least.parts i) (let m = row_most i h in let e = natural i h in omega (arith, ints, m, e))) in
+    let under = least.under in
+    cancelled (low_by n q x) range.hi one (lit< tt) (≤ℤ_trans _ _ _ below (≤ℤ_trans _ _ _ (omega (arith, ints, less)) under))
+  where
+    sums_below : (n : ℕ) (f g : ℕ → ℕ) → ((i : ℕ) → i < n → f i ≤ g i) → sum_below n f ≤ sum_below n g
+    sums_below n f g h = let e = sum_below-scaled n f g 1 1 (λ i k. let l = h i k in omega (arith, l)) in omega (arith, e)

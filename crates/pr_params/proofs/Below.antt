@@ -1,10 +1,11 @@
 -- What a test, a list and a search over the numbers below n say of one of them.
-use Rattle.std.proofs.Common.{◌≡◌, ℕ, zero, suc, ◌<◌, Bool, IsTrue, [], ◌∷◌, length, get_or, Option, None, Some, refl, ◌∙◌, ap, arith, inl, inr, length-append}
+use Rattle.std.proofs.Common.{◌≡◌, ℕ, zero, suc, ◌+◌, ◌<◌, ◌≤◌, Bool, true, false, ◌&&◌, IsTrue, [], ◌∷◌, length, get_or, Option, None, Some, refl, ◌∙◌, ap, arith, inl, inr, length-append, add-one, ℤ, pos, max}
+use Rattle.std.proofs.lemmas.Int.{ints, clamps}
 use Rattle.std.proofs.lemmas.Bool.{cases_lt}
 use Rattle.std.proofs.lemmas.List.{get_or_append_left}
 use Rattle.std.proofs.Math.Seq.{get_or-append_seam}
 use Rattle.case_types.specs.Faults.{or_else, first_below}
-use Rattle.log_laws.specs.Sums.{all_below, list_below}
+use Rattle.log_laws.specs.Sums.{all_below, list_below, greatest_below}
 use Rattle.pr_params.proofs.Component.{and_true}
 
 -- a test that holds of all holds of each
@@ -15,6 +16,42 @@ all_below_at (suc n) p i h t =
     elim (cases_lt i n) [
       | inl less ↦ all_below_at n p i less both.0
       | inr more ↦ let e : i ≡ n = omega (arith, h, more) in rw e both.1
+    ]
+
+-- a test that holds of each number below n holds of all
+pub all_below_from : (n : ℕ) (p : ℕ → Bool) → ((i : ℕ) → i < n → IsTrue (p i)) → IsTrue (all_below n p)
+all_below_from zero p h = refl
+all_below_from (suc n) p h = both (all_below n p) (p n) (all_below_from n p (λ i l. h i (omega (arith, l)))) (h n (omega arith))
+  where
+    both : (a b : Bool) → IsTrue a → IsTrue b → IsTrue (a && b)
+    both true b t u = u
+    both false b t u = t
+
+-- a test that holds below m holds below a lesser number
+pub all_below_less : (n m : ℕ) (p : ℕ → Bool) → n ≤ m → IsTrue (all_below m p) → IsTrue (all_below n p)
+all_below_less n m p h t = all_below_from n p (λ i l. all_below_at m p i (omega (arith, h, l)) t)
+
+-- a test that holds below n and at n holds below n + 1
+pub all_below_more : (n : ℕ) (p : ℕ → Bool) → all_below n p ≡ true → p n ≡ true → all_below (n + 1) p ≡ true
+all_below_more n p h k = rw (add-one n, h) k
+
+-- two tests that are the same everywhere are the same of all
+pub all_below_same : (n : ℕ) (p q : ℕ → Bool) → ((i : ℕ) → p i ≡ q i) → all_below n p ≡ all_below n q
+all_below_same zero p q h = refl
+all_below_same (suc n) p q h = rw (all_below_same n p q h, h n) refl
+
+-- two tests of which the second fails don't hold together
+pub and_false : (b : Bool) → (b && false) ≡ false
+and_false true = refl
+and_false false = refl
+
+-- a test that fails somewhere doesn't hold of all
+pub all_below_fails : (n : ℕ) (p : ℕ → Bool) (i : ℕ) → i < n → p i ≡ false → all_below n p ≡ false
+all_below_fails zero p i h f = absurd (omega (arith, h))
+all_below_fails (suc n) p i h f =
+    elim (cases_lt i n) [
+      | inl less ↦ rw (all_below_fails n p i less f) refl
+      | inr more ↦ let e : n ≡ i = omega (arith, h, more) in rw (e, f) (and_false (all_below i p))
     ]
 
 -- a list over the numbers below n has n items
@@ -51,3 +88,37 @@ first_below_none (suc n) f i h e =
       | inl less ↦ first_below_none n f i less both.0
       | inr more ↦ let same : i ≡ n = omega (arith, h, more) in rw same both.1
     ]
+
+-- what is looked for isn't found below n + 1 where it isn't below n nor at n
+pub first_below_more : {X : Type 0} → (n : ℕ) (f : ℕ → Option X) → first_below n f ≡ None → f n ≡ None → first_below (n + 1) f ≡ None
+unfolding first_below
+first_below_more n f h k = rw (add-one n, h) k
+
+-- and is found where it first is
+pub first_below_found : {X : Type 0} → (n : ℕ) (f : ℕ → Option X) (i : ℕ) (x : X) → i < n → first_below i f ≡ None → f i ≡ Some x → first_below n f ≡ Some x
+unfolding first_below
+first_below_found zero f i x h none found = absurd (omega (arith, h))
+first_below_found (suc n) f i x h none found =
+    elim (cases_lt i n) [
+      | inl less ↦ rw (first_below_found n f i x less none found) refl
+      | inr more ↦ let e : n ≡ i = omega (arith, h, more) in rw (e, none) found
+    ]
+
+-- it isn't found where it is nowhere
+pub first_below_nowhere : {X : Type 0} → (n : ℕ) (f : ℕ → Option X) → ((i : ℕ) → i < n → f i ≡ None) → first_below n f ≡ None
+unfolding first_below
+first_below_nowhere zero f h = refl
+first_below_nowhere (suc n) f h = rw (first_below_nowhere n f (λ i l. h i (omega (arith, l)))) (h n (omega arith))
+
+pub first_below_zero : {X : Type 0} → (f : ℕ → Option X) → first_below 0 f ≡ None
+unfolding first_below
+first_below_zero f = refl
+
+-- the greatest below n + 1 is the greater of that below n and of what is at n
+pub greatest_more : (n : ℕ) (f : ℕ → ℤ) (a b m : ℕ) → pos a ≡ greatest_below n f (pos 0) → pos b ≡ f n → m ≡ max b a → pos m ≡ greatest_below (n + 1) f (pos 0)
+unfolding greatest_below
+greatest_more n f a b m ea eb em = rw (add-one n, ← ea, ← eb) (omega (arith, ints, clamps, em))
+
+pub greatest_none : (f : ℕ → ℤ) → pos 0 ≡ greatest_below 0 f (pos 0)
+unfolding greatest_below
+greatest_none f = refl

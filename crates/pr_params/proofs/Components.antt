@@ -1,5 +1,7 @@
 -- The ranges of each component of a case, and of each pair.
-use Rattle.std.proofs.Common.{ℕ, ◌*◌, ◌<◌, ◌≤◌, Bool, pos, neg_ℤ, ◌≤ℤ◌, ◌&&◌, arith}
+use Rattle.std.proofs.Common.{◌≡◌, ℕ, ◌*◌, ◌<◌, ◌≤◌, Bool, ℤ, pos, neg_ℤ, ◌≤ℤ◌, ◌&&◌, to_z, of_z, arith}
+use Rattle.std.specs.Int.{w32}
+use Rattle.std.proofs.lemmas.Int.{ints}
 use Rattle.std.specs.Prelude.{int_le, nat_le, slice_index}
 use Rattle.std.proofs.Math.Nat.{mul-le-mul}
 use Rattle.case_types.specs.declared.cases.Case.{Case}
@@ -25,9 +27,14 @@ component_at c i h =
       w_high = int_at_most _ _ w.1;
     }
 
--- an interaction is at most 0.5
-pub interaction_at_most : (c : Case) (i j : ℕ) → i < c.n → j < c.n → interaction c i j ≤ℤ pos 5000
-interaction_at_most c i j h g =
+-- an interaction is in its range, and the same the other way round
+pub record IsPairOf (k turned : ℤ) : Type 0 where
+  pub low : neg_ℤ (pos 5000) ≤ℤ k
+  pub high : k ≤ℤ pos 5000
+  pub ordered : k ≤ℤ turned
+
+pair_of : (c : Case) (i j : ℕ) → i < c.n → j < c.n → IsPairOf (interaction c i j) (interaction c j i)
+pair_of c i j h g =
     let k = c.k in
     let few = c.few in
     let h' : i < 4 = omega (arith, h, few) in
@@ -35,9 +42,33 @@ interaction_at_most c i j h g =
     let place : ℕ → ℕ → Bool = λ i j. is_interaction (entry k i j) && int_le (entry k i j) (entry k j i) in
     let rows = (and_true (all_below 4 (λ i. all_below 4 (λ j. place i j))) (all_below 4 (λ i. int_le (entry k i i) (pos 0) && int_le (pos 0) (entry k i i))) c.interactions).0 in
     let row = all_below_at 4 (λ i. all_below 4 (λ j. place i j)) i h' rows in
-    let pair = all_below_at 4 (λ j. place i j) j g' row in
-    let range = (and_true (is_interaction (entry k i j)) (int_le (entry k i j) (entry k j i)) pair).0 in
-    int_at_most (entry k i j) (pos 5000) (and_true (int_le (neg_ℤ (pos 5000)) (entry k i j)) (int_le (entry k i j) (pos 5000)) range).1
+    let pair = and_true (is_interaction (entry k i j)) (int_le (entry k i j) (entry k j i)) (all_below_at 4 (λ j. place i j) j g' row) in
+    let range = and_true (int_le (neg_ℤ (pos 5000)) (entry k i j)) (int_le (entry k i j) (pos 5000)) pair.0 in
+    record {
+      low = int_at_most (neg_ℤ (pos 5000)) (entry k i j) range.0;
+      high = int_at_most (entry k i j) (pos 5000) range.1;
+      ordered = int_at_most (entry k i j) (entry k j i) pair.1;
+    }
+
+pub interaction_at_most : (c : Case) (i j : ℕ) → i < c.n → j < c.n → interaction c i j ≤ℤ pos 5000
+interaction_at_most c i j h g = (pair_of c i j h g).high
+
+pub interaction_at_least : (c : Case) (i j : ℕ) → i < c.n → j < c.n → neg_ℤ (pos 5000) ≤ℤ interaction c i j
+interaction_at_least c i j h g = (pair_of c i j h g).low
+
+-- it is read as it is
+pub interaction_read : (c : Case) (i j : ℕ) → i < c.n → j < c.n → to_z w32 (of_z w32 (interaction c i j)) ≡ interaction c i j
+interaction_read c i j h g =
+    let low = interaction_at_least c i j h g in
+    let high = interaction_at_most c i j h g in
+    omega (arith, ints, low, high)
+
+pub interaction_turned : (c : Case) (i j : ℕ) → i < c.n → j < c.n → interaction c i j ≡ interaction c j i
+interaction_turned c i j h g =
+    both (interaction c i j) (interaction c j i) (pair_of c i j h g).ordered (pair_of c j i g h).ordered
+  where
+    both : (a b : ℤ) → a ≤ℤ b → b ≤ℤ a → a ≡ b
+    both a b l m = omega (arith, ints, l, m)
 
 -- the denominator of its co-volume is positive
 pub den_positive_at : (c : Case) (i : ℕ) → i < c.n → 0 < 5000 * critical_pressure c i * c.t

@@ -1,7 +1,7 @@
 -- The range of the mean co-volume over a box holds the mean of every composition in it, for any number of components.
-use Rattle.std.proofs.Common.{◌≡◌, ℕ, zero, suc, ◌+◌, ◌-◌, ◌*◌, ◌<◌, ◌≤◌, ap, sym, subst, arith, ℤ, pos, negsuc, ◌+ℤ◌, ◌-ℤ◌, ◌*ℤ◌, ◌≤ℤ◌, List, refl, lit<, slice_index, cond, nat_lt}
+use Rattle.std.proofs.Common.{◌≡◌, ℕ, zero, suc, ◌+◌, ◌-◌, ◌*◌, ◌<◌, ◌≤◌, ap, sym, subst, arith, ℤ, pos, negsuc, ◌+ℤ◌, ◌-ℤ◌, ◌*ℤ◌, ◌≤ℤ◌, List, refl, lit<, slice_index, cond, nat_lt, inl, inr}
 use Rattle.std.specs.Int.{int_min, int_max}
-use Rattle.std.proofs.lemmas.Bool.{lt-ltb, le-ltb}
+use Rattle.std.proofs.lemmas.Bool.{cases_lt, lt-ltb, le-ltb}
 use Rattle.std.proofs.lemmas.Int.{ints}
 use Rattle.std.proofs.Math.Nat.{mul-le-mul_right}
 use Rattle.log_laws.specs.Between.{Ends, IsBetween}
@@ -43,8 +43,15 @@ rest_below (suc k) p l a b t g m inside less =
     let before = rest_below k p l a b t g m (λ i h. inside i (omega (arith, h))) (λ i h. less i (omega (arith, h))) in
     let corner = corner_least (t k) (a k) (b k) (p k * one) m at.above at.below in
     let here = mul-le_ℤ (t k +ℤ pos g) (pos (l k)) (p k * one) (less k (omega arith)) in
-    omega (arith, ints, before, corner, here, add-mul_ℤ (t k) (pos g) (pos (p k * one)),
-    add-mul_ℤ (int_sum_below k (λ i. int_min (t i *ℤ pos (a i)) (t i *ℤ pos (b i)))) (int_min (t k *ℤ pos (a k)) (t k *ℤ pos (b k))) (pos m))
+    omega (
+      arith,
+      ints,
+      before,
+      corner,
+      here,
+      add-mul_ℤ (t k) (pos g) (pos (p k * one)),
+      add-mul_ℤ (int_sum_below k (λ i. int_min (t i *ℤ pos (a i)) (t i *ℤ pos (b i)))) (int_min (t k *ℤ pos (a k)) (t k *ℤ pos (b k))) (pos m),
+    )
 
 rest_above : (k : ℕ) (p l a b : ℕ → ℕ) (t : ℕ → ℤ) (g m : ℕ) → ((i : ℕ) → i < k → IsInEnds (a i) (b i) (p i) m)
     → ((i : ℕ) → i < k → pos (l i) ≤ℤ (t i +ℤ pos g))
@@ -56,8 +63,15 @@ rest_above (suc k) p l a b t g m inside less =
     let before = rest_above k p l a b t g m (λ i h. inside i (omega (arith, h))) (λ i h. less i (omega (arith, h))) in
     let corner = corner_greatest (t k) (a k) (b k) (p k * one) m at.above at.below in
     let here = mul-le_ℤ (pos (l k)) (t k +ℤ pos g) (p k * one) (less k (omega arith)) in
-    omega (arith, ints, before, corner, here, add-mul_ℤ (t k) (pos g) (pos (p k * one)),
-    add-mul_ℤ (int_sum_below k (λ i. int_max (t i *ℤ pos (a i)) (t i *ℤ pos (b i)))) (int_max (t k *ℤ pos (a k)) (t k *ℤ pos (b k))) (pos m))
+    omega (
+      arith,
+      ints,
+      before,
+      corner,
+      here,
+      add-mul_ℤ (t k) (pos g) (pos (p k * one)),
+      add-mul_ℤ (int_sum_below k (λ i. int_max (t i *ℤ pos (a i)) (t i *ℤ pos (b i)))) (int_max (t k *ℤ pos (a k)) (t k *ℤ pos (b k))) (pos m),
+    )
 
 -- ---- what follows of the floor and of the ceiling
 -- w is at most (g one + rest) / one
@@ -158,34 +172,40 @@ range_above r b x parts m s f hs box h =
     (over_less least sum m s mean box.some by_least over)
     (over_less (low_by r b x) sum m s mean box.some by_rest over)
 
-range_below : (r : ℕ) (b : List Ends) (x : Box) (parts : ℕ → ℕ) (m s : ℕ) (f : ℕ → Fraction) → 0 < s → AreFree r x parts m
-    → ((i : ℕ) → i < suc r → HoldsNatural (ends_at b i) s (f i))
-    → ((mean_by (suc r) m parts f).num *ℤ pos s) ≤ℤ ((range_by (suc r) r b x).hi *ℤ pos (mean_by (suc r) m parts f).den)
-range_below r b x parts m s f hs box h =
+-- the sum of the upper ends by the parts is at most that of the range's upper end
+sum_in_range : (r : ℕ) (b : List Ends) (x : Box) (parts : ℕ → ℕ) (m : ℕ) → AreFree r x parts m → ((i : ℕ) → i < suc r → pos 0 ≤ℤ (ends_at b i).hi)
+    → (ends_at b r).lo ≤ℤ (ends_at b r).hi
+    → pos (sum_below (suc r) (λ i. parts i * positive_part (ends_at b i).hi)) ≤ℤ ((range_by (suc r) r b x).hi *ℤ pos m)
+sum_in_range r b x parts m box high ordered =
     let l : ℕ → ℕ = λ i. positive_part (ends_at b i).hi in
-    let mean = mean_by (suc r) m parts f in
     let sum = sum_below (suc r) (λ i. parts i * l i) in
-    let natural : (i : ℕ) → i < suc r → (ends_at b i).hi ≡ pos (l i) = λ i k. natural_is (ends_at b i).hi (high_of (ends_at b i) s (f i) (h i k)) in
-    let under = mean_under (suc r) m s parts l f box.some hs (λ i k. under_end (ends_at b i) s (f i) (high_of (ends_at b i) s (f i) (h i k)) (h i k).held) in
+    let natural : (i : ℕ) → i < suc r → (ends_at b i).hi ≡ pos (l i) = λ i k. natural_is (ends_at b i).hi (high i k) in
     let greatest = greatest_below (suc r) (λ i. (ends_at b i).hi) (ends_at b 0).hi in
     let by_greatest : pos sum ≤ℤ (greatest *ℤ pos m) =
     subst (λ (k : ℕ). pos sum ≤ℤ (greatest *ℤ pos k)) (sym box.all)
     (above_all (suc r) parts l greatest
     (λ i k. ≤ℤ_trans _ _ _ (same_at_most (pos (l i)) (ends_at b i).hi (sym (natural i k)))
     (le-greatest (suc r) i (λ j. (ends_at b j).hi) (ends_at b 0).hi k))) in
-    let last = h r (omega arith) in
     let step : ℕ → ℤ = λ i. (ends_at b i).hi -ℤ (ends_at b r).lo in
     let rest = int_sum_below r (λ i. int_max (step i *ℤ low_fraction x i) (step i *ℤ high_fraction x i)) in
-    let ordered = ends_ordered (ends_at b r) s (f r) last.held in
     let last_is = natural r (omega arith) in
     let rests = rest_above r parts l (slice_index x.lo) (slice_index x.hi) step (l r) m (λ i k. box.inside i k)
     (λ i k. let e = natural i (omega (arith, k)) in omega (arith, ints, e, last_is, ordered)) in
     let ceil = le-ceil_over ((ends_at b r).hi *ℤ pos one +ℤ rest) one (lit< tt) in
     let by_rest = ceil_above (high_by r b x) rest (l r) m (sum_below r parts) (parts r) (sum_below r (λ i. parts i * l i)) box.all
     (omega (arith, ints, ceil, last_is)) rests in
-    of_lesser (λ z. (mean.num *ℤ pos s) ≤ℤ (z *ℤ pos mean.den)) greatest (high_by r b x)
-    (under_greater greatest sum m s mean box.some by_greatest under)
-    (under_greater (high_by r b x) sum m s mean box.some by_rest under)
+    of_lesser (λ z. pos sum ≤ℤ (z *ℤ pos m)) greatest (high_by r b x) by_greatest by_rest
+
+range_below : (r : ℕ) (b : List Ends) (x : Box) (parts : ℕ → ℕ) (m s : ℕ) (f : ℕ → Fraction) → 0 < s → AreFree r x parts m
+    → ((i : ℕ) → i < suc r → HoldsNatural (ends_at b i) s (f i))
+    → ((mean_by (suc r) m parts f).num *ℤ pos s) ≤ℤ ((range_by (suc r) r b x).hi *ℤ pos (mean_by (suc r) m parts f).den)
+range_below r b x parts m s f hs box h =
+    let l : ℕ → ℕ = λ i. positive_part (ends_at b i).hi in
+    let high : (i : ℕ) → i < suc r → pos 0 ≤ℤ (ends_at b i).hi = λ i k. high_of (ends_at b i) s (f i) (h i k) in
+    let under = mean_under (suc r) m s parts l f box.some hs (λ i k. under_end (ends_at b i) s (f i) (high i k) (h i k).held) in
+    let last = h r (omega arith) in
+    under_greater (range_by (suc r) r b x).hi (sum_below (suc r) (λ i. parts i * l i)) m s (mean_by (suc r) m parts f) box.some
+    (sum_in_range r b x parts m box high (ends_ordered (ends_at b r) s (f r) last.held)) under
 
 range_free : (r : ℕ) (b : List Ends) (x : Box) (parts : ℕ → ℕ) (m s : ℕ) (f : ℕ → Fraction) → 0 < s → AreFree r x parts m
     → ((i : ℕ) → i < suc r → HoldsNatural (ends_at b i) s (f i)) → IsBetween (range_by (suc r) r b x) s (mean_by (suc r) m parts f)
@@ -255,3 +275,51 @@ unfolding covolume_range
 range_ordered n q x count some few inside low order =
     subst (λ (k : ℕ). (range_by k (k - 1) q.covolumes x).lo ≤ℤ (range_by k (k - 1) q.covolumes x).hi) (sym count)
     (ordered_at n (n - 1) q.covolumes x (omega (arith, some)) few (λ i h. inside i (omega (arith, h))) low order)
+
+-- ---- the lower ends of the fractions, and what they leave of one given to the last
+-- parts of one, from the lower ends up, whose upper ends of co-volumes add up to no more than the range's
+pub record HasLeastParts (n : ℕ) (b : List Ends) (x : Box) (range : Ends) : Type 0 where
+  pub parts : ℕ → ℕ
+  pub all : one ≡ sum_below n parts
+  pub above : (i : ℕ) → i < n → slice_index x.lo i * one ≤ parts i * one
+  pub under : pos (sum_below n (λ i. parts i * positive_part (ends_at b i).hi)) ≤ℤ (range.hi *ℤ pos one)
+
+parts_at : (n rest : ℕ) (b : List Ends) (x : Box) → n ≡ suc rest → sum_below rest (slice_index x.lo) + slice_index x.lo rest ≤ one
+    → ((i : ℕ) → i < rest → slice_index x.lo i ≤ slice_index x.hi i) → ((i : ℕ) → i < n → pos 0 ≤ℤ (ends_at b i).hi) → ((i : ℕ) → i < n → (ends_at b i).lo ≤ℤ (ends_at b i).hi)
+    → HasLeastParts n b x (range_by n rest b x)
+parts_at zero r b x is few inside high order = absurd (omega (arith, is))
+parts_at (suc n) r b x is few inside high order =
+    let same : n ≡ r = omega (arith, is) in
+    subst (λ (k : ℕ). sum_below k (slice_index x.lo) + slice_index x.lo k ≤ one → ((i : ℕ) → i < k → slice_index x.lo i ≤ slice_index x.hi i) → HasLeastParts (suc n) b x (range_by (suc n) k b x)) same
+    (λ few inside.
+    let less : sum_below n (slice_index x.lo) ≤ one = omega (arith, few) in
+    let free = they_are_free n x less inside in
+    record {
+      parts = least_parts n x less;
+      all = free.all;
+      above = λ i h. at_each n x less few i h;
+      under = sum_in_range n b x (least_parts n x less) one free high (order n (omega arith));
+    })
+    few inside
+  where
+    at_each : (n : ℕ) (x : Box) (less : sum_below n (slice_index x.lo) ≤ one) → sum_below n (slice_index x.lo) + slice_index x.lo n ≤ one → (i : ℕ) → i < suc n
+        → slice_index x.lo i * one ≤ least_parts n x less i * one
+    at_each n x less few i h =
+        elim (cases_lt i n) [
+          | inl k ↦ let e = free_part n x less i k in omega (arith, e)
+          | inr k ↦
+              let same : i ≡ n = omega (arith, k, h) in
+              subst (λ (j : ℕ). slice_index x.lo j * one ≤ least_parts n x less j * one) (sym same) (let e = last_part n x less in omega (arith, e, few))
+        ]
+
+pub least_parts_of : (n : ℕ) (q : Numbers) (x : Box) → q.count ≡ n → 0 < n → sum_below n (slice_index x.lo) ≤ one → ((i : ℕ) → i < n → slice_index x.lo i ≤ slice_index x.hi i)
+    → ((i : ℕ) → i < n → pos 0 ≤ℤ (ends_at q.covolumes i).hi) → ((i : ℕ) → i < n → (ends_at q.covolumes i).lo ≤ℤ (ends_at q.covolumes i).hi)
+    → HasLeastParts n q.covolumes x (covolume_range q x)
+unfolding covolume_range
+least_parts_of n q x count some few inside high order =
+    subst (λ (k : ℕ). HasLeastParts n q.covolumes x (range_by k (k - 1) q.covolumes x)) (sym count)
+    (parts_at n (n - 1) q.covolumes x (omega (arith, some)) (split n some few) (λ i h. inside i (omega (arith, h))) high order)
+  where
+    split : (n : ℕ) → 0 < n → sum_below n (slice_index x.lo) ≤ one → sum_below (n - 1) (slice_index x.lo) + slice_index x.lo (n - 1) ≤ one
+    split zero some few = absurd (omega (arith, some))
+    split (suc n) some few = let e : suc n - 1 ≡ n = omega arith in rw e few

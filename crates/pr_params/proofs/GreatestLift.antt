@@ -1,5 +1,5 @@
 -- The lift of a case that breaks no range is the greatest with which every co-volume fits.
-use Rattle.std.proofs.Common.{◌≡◌, ℕ, zero, suc, ◌*◌, ◌^◌, ◌<◌, Bool, true, false, ◌&&◌, not, cond, nat_le, nat_lt, IsTrue, refl, arith, inl, inr, None}
+use Rattle.std.proofs.Common.{◌≡◌, ℕ, zero, suc, ◌*◌, ◌^◌, Bool, true, false, not, cond, nat_le, nat_lt, IsTrue, refl, arith, inl, inr, None}
 use Rattle.std.proofs.lemmas.Bool.{cases_lt}
 use Rattle.case_types.specs.declared.cases.Case.{Case}
 use Rattle.case_types.specs.CaseWords.{critical_temperature, critical_pressure}
@@ -7,19 +7,10 @@ use Rattle.case_types.specs.Faults.{fault_of, covolumes_in_range}
 use Rattle.case_types.specs.Numbers.{lift_up_to, lift_of, fits_lifted}
 use Rattle.log_laws.specs.Sums.{all_below}
 use Rattle.pr_params.specs.Kept.{IsGreatestLift}
-use Rattle.pr_params.proofs.Below.{all_below_at}
+use Rattle.pr_params.proofs.Below.{all_below_at, all_below_from}
 use Rattle.pr_params.proofs.Component.{and_true, at_most}
 use Rattle.pr_params.proofs.Faulted.{le_yes}
 use Rattle.pr_params.proofs.Sizes.{or_where}
-
--- a test that holds of each number below n holds of all
-all_below_from : (n : ℕ) (p : ℕ → Bool) → ((i : ℕ) → i < n → IsTrue (p i)) → IsTrue (all_below n p)
-all_below_from zero p h = refl
-all_below_from (suc n) p h = both (all_below n p) (p n) (all_below_from n p (λ i l. h i (omega (arith, l)))) (h n (omega arith))
-  where
-    both : (a b : Bool) → IsTrue a → IsTrue b → IsTrue (a && b)
-    both true b t u = u
-    both false b t u = t
 
 -- a test whose opposite is false is true
 pub true_of : (b : Bool) → not b ≡ false → IsTrue b
@@ -38,7 +29,7 @@ fits_unlifted c e =
     at_one : (x y : ℕ) → IsTrue (nat_le x y) → IsTrue (nat_le (x * 2 ^ 0) y)
     at_one x y h = le_yes (x * 2 ^ 0) y (let p = at_most x y h in omega (arith, p))
 
-greatest_up_to : (c : Case) (k : ℕ) → IsTrue (all_below c.n (λ i. fits_lifted c 0 i)) → IsGreatestLift c k (lift_up_to c k)
+pub greatest_up_to : (c : Case) (k : ℕ) → IsTrue (all_below c.n (λ i. fits_lifted c 0 i)) → IsGreatestLift c k (lift_up_to c k)
 unfolding lift_up_to
 greatest_up_to c zero h = record { within = omega arith; fits = h; greatest = λ more l m. absurd (omega (arith, l, m)) }
 greatest_up_to c (suc k) h = step (all_below c.n (λ i. fits_lifted c (suc k) i)) refl (lift_up_to c k) (greatest_up_to c k h)

@@ -5,7 +5,6 @@ pub mod Sizes
 pub mod Alpha
 pub mod Temperature
 pub mod Faulted
-pub mod Made
 pub mod Accepted
 pub mod Signed
 pub mod Mean
@@ -27,7 +26,17 @@ pub mod ParametersHold
 pub mod RatioEnds
 pub mod AllMeans
 pub mod AcceptedSizes
-pub mod EitherWay
+pub mod InOrder
 pub mod HeldAt
 pub mod MeansHold
 pub mod GreatestLift
+pub mod CommonLift
+pub mod Slots
+pub mod Entries
+pub mod Placed
+pub mod Pressures
+pub mod Bares
+pub mod EntrySizes
+pub mod EntryFaults
+pub mod FirstFault
+pub mod Filled

@@ -1,6 +1,5 @@
 -- How many bits the co-volume of one component is raised by.
-use Rattle.std.proofs.Common.{◌≡◌, ℕ, zero, suc, ◌+◌, ◌*◌, ◌^◌, ◌<◌, ◌≤◌, true, false, cond, nat_le, refl, ap, arith, lit<, inl, inr}
-use Rattle.std.proofs.Math.Nat.{mul-le-mul_left, pow-le-pow_right}
+use Rattle.std.proofs.Common.{◌≡◌, ℕ, zero, suc, ◌+◌, ◌*◌, ◌^◌, ◌<◌, ◌≤◌, true, false, cond, nat_le, refl, ap, arith, inl, inr}
 use Rattle.std.proofs.lemmas.Bool.{cases_lt}
 use Rattle.case_types.specs.declared.cases.Case.{Case}
 use Rattle.case_types.specs.Numbers.{lift_up_to, fits_lifted}
@@ -59,21 +58,3 @@ lift_up_to_is c (suc k) h range =
           | inl more ↦ before.greatest more
           | inr end ↦ let e : lift + 1 ≡ suc k = omega (arith, before.within, end, less) in rw e above
         ]
-
--- there is one such number
-pub one_lift : (num den a b : ℕ) → IsLift num den 29 a → IsLift num den 29 b → a ≡ b
-one_lift num den a b x y =
-    elim (cases_lt a b) [
-      | inl less ↦ absurd (clash a b x y less)
-      | inr more ↦ elim (cases_lt b a) [
-        | inl less ↦ absurd (clash b a y x less)
-        | inr same ↦ omega (arith, more, same)
-      ]
-    ]
-  where
-    clash : (a b : ℕ) → IsLift num den 29 a → IsLift num den 29 b → a < b → ⊥
-    clash a b x y less =
-        let above = x.greatest (omega (arith, less, y.within)) in
-        let power : 2 ^ (a + 1) ≤ 2 ^ b = pow-le-pow_right (lit< tt) {i = a + 1} {j = b} (omega (arith, less)) in
-        let more = mul-le-mul_left num power in
-        omega (arith, above, more, y.lifted)

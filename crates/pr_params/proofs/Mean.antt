@@ -10,6 +10,7 @@ use Rattle.case_types.specs.Bounds.{Box, one, covolume_range, attraction_low, at
 use Rattle.case_types.specs.Numbers.{Numbers, numbers_of, lift_of}
 use Rattle.log_laws.specs.Sums.{least_below, greatest_below, int_sum_below}
 use Rattle.case_types.specs.Faults.{fault_of}
+use Rattle.pr_params.specs.Entries.{covolume_entry}
 use Rattle.pr_params.specs.One.{num_one, den_one, covolume_one, attraction_one}
 use Rattle.pr_params.proofs.Accepted.{covolume_sizes}
 use Rattle.pr_params.proofs.One.{numbers_of_one, numbers_one}
@@ -53,7 +54,7 @@ range_one c x h low high = ap (λ (q : Numbers). covolume_range q x) (numbers_on
 
 -- the upper end of the co-volume isn't negative
 pub hi_positive : (c : Case) → pos 0 ≤ℤ (covolume_one c).hi
-unfolding covolume_one
+unfolding covolume_entry
 hi_positive c = rw (ceil_over-pos (num_one c * 2 ^ (56 + lift_of c)) (den_one c) (den_positive c)) (omega (arith, ints))
 
 -- the same where the case is accepted

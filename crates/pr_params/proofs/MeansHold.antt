@@ -1,27 +1,30 @@
 -- The means of a phase lie between the ends of the box that holds it, and how large those ends are.
-use Rattle.std.proofs.Common.{◌≡◌, ℕ, ◌+◌, ◌^◌, ◌<◌, ◌≤◌, ℤ, pos, ◌≤ℤ◌, refl, subst, sym, ap, arith, zero, suc, inl, inr, ◌-◌, None, slice_index}
+use Rattle.std.proofs.Common.{◌≡◌, ℕ, ◌+◌, ◌^◌, ◌<◌, ◌≤◌, pos, ◌≤ℤ◌, ◌*ℤ◌, refl, subst, sym, ap, arith, zero, suc, inl, inr, ◌-◌, None, slice_index}
 use Rattle.std.specs.Int.{int_min, int_max}
 use Rattle.std.proofs.lemmas.Bool.{cases_lt}
 use Rattle.std.proofs.lemmas.Int.{ints, clamps}
 use Rattle.std.proofs.lemmas.Nat.{pow_pos}
 use Rattle.log_laws.specs.Between.{IsBetween}
+use Rattle.log_laws.specs.Whole.{floor_div, ceil_div}
+use Rattle.log_laws.proofs.Exports.{≤ℤ_trans}
 use Rattle.log_laws.specs.Sums.{sum_below, least_below, greatest_below}
 use Rattle.case_types.specs.declared.cases.Case.{Case}
 use Rattle.case_types.specs.declared.cells.BoxX.{BoxX}
-use Rattle.case_types.specs.Bounds.{Box, covolume_range, covolume_low_by_rest, covolume_high_by_rest, ratio_low, ratio_high}
+use Rattle.case_types.specs.Bounds.{Box, covolume_range, attraction_low, attraction_high, covolume_low_by_rest, covolume_high_by_rest, ratio_low, ratio_high}
 use Rattle.case_types.specs.Divisions.{State, moles, mean_covolume, mean_attraction}
 use Rattle.case_types.specs.Faults.{fault_of}
 use Rattle.case_types.specs.Holding.{HoldsParameters, IsInBox, HoldsMeans}
 use Rattle.case_types.specs.Instances.{Instance, IsInstance}
-use Rattle.case_types.specs.Numbers.{numbers_of, enclosures_of, lift_of}
+use Rattle.case_types.specs.Numbers.{Numbers, numbers_of, enclosures_of, lift_of}
 use Rattle.case_types.specs.Parameters.{covolume, attraction}
-use Rattle.case_types.specs.Tables.{ends_at}
+use Rattle.case_types.specs.Tables.{ends_at, ends_of_pair}
 use Rattle.pr_params.proofs.Accepted.{two_exact, e_exact, lift_small}
 use Rattle.pr_params.proofs.AcceptedSizes.{usable, covolume_least, covolume_most}
-use Rattle.pr_params.proofs.AllMeans.{AreMeans, all_means, le-least}
+use Rattle.pr_params.proofs.AllMeans.{AreMeans, all_means, le-least, least_attraction_below, floor_ratio_most}
 use Rattle.pr_params.proofs.AtComponents.{covolume_at, lift_of_numbers}
-use Rattle.pr_params.proofs.CovolumeRange.{AreInBox, range_holds, range_ordered}
-use Rattle.pr_params.proofs.EitherWay.{greatest-le}
+use Rattle.pr_params.proofs.CovolumeRange.{AreInBox, range_holds, range_ordered, least_parts_of}
+use Rattle.pr_params.proofs.InOrder.{greatest-le, attraction_most, attraction_in_order}
+use Rattle.pr_params.proofs.AttractionRange.{shared_down}
 use Rattle.pr_params.proofs.ParametersHold.{covolume_within, holds_parameters}
 use Rattle.pr_params.proofs.Sized.{IsSized, count_of, each_at_most, ends_ordered}
 use Rattle.pr_params.specs.Boxes.{box_of}
@@ -82,7 +85,7 @@ sum_up_to (suc n) k f h =
     ]
 
 -- the ends of a co-volume are in order
-covolume_ordered : (c : Case) (i : ℕ) → i < c.n → (ends_at (numbers_of c).covolumes i).lo ≤ℤ (ends_at (numbers_of c).covolumes i).hi
+pub covolume_ordered : (c : Case) (i : ℕ) → i < c.n → (ends_at (numbers_of c).covolumes i).lo ≤ℤ (ends_at (numbers_of c).covolumes i).hi
 covolume_ordered c i h =
     ends_ordered (ends_at (numbers_of c).covolumes i) (2 ^ (56 + lift_of c)) (covolume c i) (rw (covolume_at c i h) (covolume_within c (lift_of c) i h))
 
@@ -123,6 +126,39 @@ range_in_order p x =
     (λ i h. each_at_most 4 x.a x.b x.ordered i (omega (arith, h, few)))
     (λ i h. (let l = covolume_least c i p.accepted h in omega (arith, ints, l)))
     (λ i h. covolume_ordered c i h)
+
+-- ---- the lower ratio is at most 128
+-- the mean attraction at least is at most the mean co-volume at most
+low_in_range : (p : Params) (x : BoxX) → attraction_low (numbers_of p.case) (box_of x) ≤ℤ (covolume_range (numbers_of p.case) (box_of x)).hi
+low_in_range p x =
+    let c = p.case in
+    let q = numbers_of c in
+    let few = c.few in
+    let order : (i : ℕ) → i < c.n → (ends_at q.covolumes i).lo ≤ℤ (ends_at q.covolumes i).hi = λ i h. covolume_ordered c i h in
+    let least = least_parts_of c.n q (box_of x) (count_of c) c.some
+    (let part = sum_up_to 4 c.n (slice_index x.a) few in let all = x.not_above in omega (arith, part, all))
+    (λ i h. each_at_most 4 x.a x.b x.ordered i (omega (arith, h, few)))
+    (λ i h. (let l = covolume_least c i p.accepted h in let o = order i h in omega (arith, ints, l, o))) order in
+    subst (λ (n : ℕ). shared_down n (slice_index x.a) (λ i. shared_down n (slice_index x.a) (λ j. (ends_of_pair q.attractions i j).lo)) ≤ℤ (covolume_range q (box_of x)).hi) (sym (count_of c))
+    (least_attraction_below c.n q (box_of x) (covolume_range q (box_of x)) (usable c p.accepted)
+    (λ i j h g. ≤ℤ_trans _ _ _ (attraction_in_order c i j p.accepted h g) (attraction_most c i j p.accepted h g)) order least)
+
+pub ratio_low_most : (p : Params) (x : BoxX) → ratio_low (numbers_of p.case) (box_of x) ≤ℤ pos (2 ^ 47)
+unfolding ratio_low
+ratio_low_most p x =
+    let low = low_in_range p x in
+    let some = range_least p.case (box_of x) p.accepted in
+    let order = range_in_order p x in
+    floor_ratio_most (attraction_low (numbers_of p.case) (box_of x)) (covolume_range (numbers_of p.case) (box_of x)).hi low (omega (arith, ints, some, order))
+
+-- ---- the ratios by their ends
+pub ratio_low_from : (p : Numbers) (x : Box) → floor_div (attraction_low p x *ℤ pos (2 ^ 47)) (covolume_range p x).hi ≡ ratio_low p x
+unfolding ratio_low
+ratio_low_from p x = refl
+
+pub ratio_high_from : (p : Numbers) (x : Box) → int_min (ceil_div (attraction_high p x *ℤ pos (2 ^ 47)) (covolume_range p x).lo) p.rho ≡ ratio_high p x
+unfolding ratio_high
+ratio_high_from p x = refl
 
 pub sized : (c : Case) (box : Box) → fault_of c ≡ None → ((i : ℕ) → i < c.n → slice_index box.hi i ≤ 2 ^ 40) → IsSized c.n (numbers_of c) box
 sized c box e small = record {

@@ -1,21 +1,20 @@
 -- The numbers and the faults of a case of one component.
-use Rattle.std.proofs.Common.{◌≡◌, ℕ, ◌*◌, ◌^◌, List, [], ◌∷◌, true, ◌&&◌, not, cond, nat_le, nat_lt, ℤ, pos, ◌+ℤ◌, refl, ◌∙◌, arith, ap, Option, None}
+use Rattle.std.proofs.Common.{◌≡◌, ℕ, ◌*◌, ◌^◌, [], ◌∷◌, true, ◌&&◌, not, nat_le, nat_lt, ℤ, pos, ◌+ℤ◌, refl, ◌∙◌, arith, ap, Option, None}
 use Rattle.std.specs.Prelude.{int_lt}
 use Rattle.std.specs.Int.{int_min, int_max}
 use Rattle.std.proofs.lemmas.Int.{ints}
-use Rattle.log_laws.specs.Between.{Ends}
 use Rattle.log_laws.specs.LogE.{log_e_ends}
 use Rattle.log_laws.specs.Roots.{root_ends}
 use Rattle.case_types.specs.declared.cases.Case.{Case}
 use Rattle.case_types.specs.declared.cases.ParamFault.{ParamFault}
 use Rattle.case_types.specs.declared.cases.ParamFault.TheVariants.{BRange, BRatio, MRange, ARange}
 use Rattle.case_types.specs.CaseWords.{critical_temperature, critical_pressure}
-use Rattle.case_types.specs.Instances.{Enclosures}
-use Rattle.case_types.specs.Numbers.{Numbers, numbers_of, enclosures_of, lift_of, covolume_ends, alpha_root_ends, bare_attraction_ends, attraction_ends, table_below, pressure_root_of, greatest_ratio}
+use Rattle.case_types.specs.Numbers.{Numbers, numbers_of, lift_of}
 use Rattle.case_types.specs.Faults.{fault_of, first_below, or_else, fault_where, alpha_fault, attraction_fault}
 use Rattle.log_laws.specs.Sums.{list_below, greatest_below, all_below, int_sum_below}
-use Rattle.pr_params.specs.One.{num_one, den_one, root_one, alpha_one, covolume_one, bare_one, attraction_one, ratio_one}
-use Rattle.case_types.specs.Tables.{no_ends, ends_at, ends_of_pair}
+use Rattle.pr_params.specs.Entries.{bare_entry}
+use Rattle.pr_params.specs.One.{num_one, den_one, alpha_one, covolume_one, attraction_one, ratio_one}
+use Rattle.pr_params.proofs.Entries.{numbers_below, same_numbers}
 
 -- ---- sums
 -- a sum of one term
@@ -28,41 +27,6 @@ unfolding int_sum_below
 sum_at_one n f h = rw h (first_only (f 0))
 
 -- ---- the numbers
--- the numbers of the first n components
-abbrev roots_at : Case → ℕ → List Ends
-roots_at c n = list_below n (λ i. root_ends c.t (critical_temperature c i) 48)
-
-abbrev alphas_at : Case → ℕ → List Ends
-alphas_at c n = list_below n (λ i. alpha_root_ends c (ends_at (roots_at c n) i) i)
-
-abbrev covolumes_at : Case → ℕ → List Ends
-covolumes_at c n = list_below n (λ i. covolume_ends c (lift_of c) i)
-
-abbrev bares_at : Case → ℕ → List (List Ends)
-bares_at c n =
-    table_below n (λ i j. bare_attraction_ends c (lift_of c) (pressure_root_of c (enclosures_of c).pressure_roots i j) i j)
-
-abbrev attractions_at : Case → ℕ → List (List Ends)
-attractions_at c n =
-    table_below n (λ i j. attraction_ends (ends_of_pair (bares_at c n) i j) (ends_at (alphas_at c n) i) (ends_at (alphas_at c n) j))
-
-abbrev numbers_at : Case → ℕ → Numbers
-numbers_at c n = record {
-  count = n;
-  lift = lift_of c;
-  root_two = root_ends 2 1 60;
-  log_e = log_e_ends;
-  alpha_roots = alphas_at c n;
-  covolumes = covolumes_at c n;
-  bare_attractions = bares_at c n;
-  attractions = attractions_at c n;
-  rho = greatest_ratio n (attractions_at c n) (covolumes_at c n);
-}
-
-numbers_are : (c : Case) → numbers_of c ≡ numbers_at c c.n
-unfolding numbers_of enclosures_of
-numbers_are c = refl
-
 -- those of one component
 abbrev pub numbers_of_one : Case → Numbers
 numbers_of_one c = record {
@@ -72,50 +36,17 @@ numbers_of_one c = record {
   log_e = log_e_ends;
   alpha_roots = alpha_one c ∷ [];
   covolumes = covolume_one c ∷ [];
-  bare_attractions = (bare_one c ∷ []) ∷ [];
+  bare_attractions = (bare_entry c 0 0 ∷ []) ∷ [];
   attractions = (attraction_one c ∷ []) ∷ [];
   rho = int_max (pos 0) (int_max (pos 0) (ratio_one c));
 }
 
-at_one : (c : Case) → numbers_at c 1 ≡ numbers_of_one c
-unfolding list_below greatest_below root_one alpha_one covolume_one bare_one attraction_one ratio_one
+at_one : (c : Case) → numbers_below c 1 ≡ numbers_of_one c
+unfolding list_below greatest_below
 at_one c = refl
 
 pub numbers_one : (c : Case) → c.n ≡ 1 → numbers_of c ≡ numbers_of_one c
-numbers_one c h = numbers_are c ∙ ap (λ n. numbers_at c n) h ∙ at_one c
-
--- ---- the printed pairs
-abbrev pair_ends : Case → ℕ → ℕ → ℕ → Ends
-pair_ends c n i j = cond (nat_lt j n) (root_ends (critical_pressure c i * critical_pressure c j) 1 32) no_ends
-
-abbrev enclosures_at : Case → ℕ → Enclosures
-enclosures_at c n = record {
-  root_two = root_ends 2 1 60;
-  log_e = log_e_ends;
-  temperature_roots = roots_at c n;
-  pressure_roots =
-      pair_ends c n 0 1 ∷ pair_ends c n 0 2 ∷ pair_ends c n 0 3
-      ∷ pair_ends c n 1 2 ∷ pair_ends c n 1 3 ∷ pair_ends c n 2 3 ∷ [];
-}
-
-enclosures_are : (c : Case) → enclosures_of c ≡ enclosures_at c c.n
-unfolding enclosures_of
-enclosures_are c = refl
-
-abbrev enclosures_of_one : Case → Enclosures
-enclosures_of_one c = record {
-  root_two = root_ends 2 1 60;
-  log_e = log_e_ends;
-  temperature_roots = root_one c ∷ [];
-  pressure_roots = no_ends ∷ no_ends ∷ no_ends ∷ no_ends ∷ no_ends ∷ no_ends ∷ [];
-}
-
-enclosures_at_one : (c : Case) → enclosures_at c 1 ≡ enclosures_of_one c
-unfolding list_below root_one
-enclosures_at_one c = refl
-
-pub enclosures_one : (c : Case) → c.n ≡ 1 → enclosures_of c ≡ enclosures_of_one c
-enclosures_one c h = enclosures_are c ∙ ap (λ n. enclosures_at c n) h ∙ enclosures_at_one c
+numbers_one c h = same_numbers c ∙ ap (λ n. numbers_below c n) h ∙ at_one c
 
 -- ---- the faults
 abbrev fault_at : Case → ℕ → Numbers → Option ParamFault

@@ -72,13 +72,13 @@ natural_product : (z : ℤ) (n : ℕ) → pos 0 ≤ℤ z → z *ℤ pos n ≡ po
 natural_product (pos a) n h = refl
 natural_product (negsuc a) n h = absurd (omega (arith, ints, h))
 
-cohesion_natural : (c : Case) (i j : ℕ) → i < c.n → j < c.n →
+pub cohesion_natural : (c : Case) (i j : ℕ) → i < c.n → j < c.n →
     cohesion_num c i j ≡ pos (unsigned_abs (pos 10000 -ℤ interaction c i j) * (11431 * c.p * critical_temperature c i * critical_temperature c j))
 cohesion_natural c i j h g =
     let k = interaction_at_most c i j h g in
     natural_product (pos 10000 -ℤ interaction c i j) (11431 * c.p * critical_temperature c i * critical_temperature c j) (omega (arith, ints, k))
 
-den_positive : (c : Case) → 0 < cohesion_den c
+pub den_positive : (c : Case) → 0 < cohesion_den c
 den_positive c =
     let low = c.t_low in
     let square = pow_pos_of c.t 2 (omega (arith, low)) in

@@ -53,7 +53,7 @@ product_holds a b al ah bl bh =
     let high = mul-le-mul ah bh in
     root_holds (a * b) 1 32 (omega arith) (omega (arith, low)) (omega (arith, high))
 
-live : (j n : ℕ) (v : Ends) → j < n → cond (nat_lt j n) v no_ends ≡ v
+pub live : (j n : ℕ) (v : Ends) → j < n → cond (nat_lt j n) v no_ends ≡ v
 live j n v h = rw (lt_yes j n h) refl
 
 pair_holds : (c : Case) (i j : ℕ) → i < j → j < c.n →
@@ -65,7 +65,7 @@ pair_holds c i j h g =
     (product_holds (critical_pressure c i) (critical_pressure c j) a.pc_low a.pc_high b.pc_low b.pc_high)
 
 -- the pairs stand in their places
-pair_at : (c : Case) (i j : ℕ) → i < j → j < 4 → ends_at (enclosures_of c).pressure_roots (pair_place i j) ≡ pressure_root_ends c i j
+pub pair_at : (c : Case) (i j : ℕ) → i < j → j < 4 → ends_at (enclosures_of c).pressure_roots (pair_place i j) ≡ pressure_root_ends c i j
 unfolding enclosures_of
 pair_at c zero zero h g = absurd (omega (arith, h))
 pair_at c zero (suc zero) h g = refl
@@ -84,7 +84,7 @@ pair_at c (suc (suc zero)) (suc (suc (suc zero))) h g = refl
 pair_at c (suc (suc zero)) (suc (suc (suc (suc j)))) h g = absurd (omega (arith, g))
 pair_at c (suc (suc (suc i))) j h g = absurd (omega (arith, h, g))
 
-temperature_at : (c : Case) (i : ℕ) → i < c.n → ends_at (enclosures_of c).temperature_roots i ≡ root_ends c.t (critical_temperature c i) 48
+pub temperature_at : (c : Case) (i : ℕ) → i < c.n → ends_at (enclosures_of c).temperature_roots i ≡ root_ends c.t (critical_temperature c i) 48
 unfolding enclosures_of
 temperature_at c i h = get_or-list_below c.n (λ i. root_ends c.t (critical_temperature c i) 48) no_ends i h
 

@@ -43,3 +43,7 @@ power_read l h =
     let low : 2 ^ 16 ≤ 2 ^ (16 + l) = pow-le-pow_right (lit< tt) {i = 16} {j = 16 + l} (omega arith) in
     let high : 2 ^ (16 + l) ≤ 2 ^ 45 = pow-le-pow_right (lit< tt) {i = 16 + l} {j = 45} (omega (arith, h)) in
     (omega (arith, high), low, high)
+
+-- a number that isn't negative is its size
+pub natural : (z : ℤ) → pos 0 ≤ℤ z → z ≡ pos (unsigned_abs z)
+natural z h = omega (arith, ints, h)

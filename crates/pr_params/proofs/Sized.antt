@@ -1,5 +1,5 @@
 -- How large the numbers of a case are over a box: what the bounds of energies need to know.
-use Rattle.std.proofs.Common.{ℕ, zero, suc, ◌+◌, ◌*◌, ◌^◌, ◌<◌, ◌≤◌, ◌≡◌, nat_le, IsTrue, refl, sym, subst, ap, ◌∙◌, arith, lit<, None, List, ℤ, pos, ◌*ℤ◌, ◌≤ℤ◌, slice_index}
+use Rattle.std.proofs.Common.{ℕ, zero, suc, ◌+◌, ◌*◌, ◌^◌, ◌<◌, ◌≤◌, ◌≡◌, nat_le, IsTrue, refl, ap, ◌∙◌, arith, lit<, List, ℤ, pos, ◌*ℤ◌, ◌≤ℤ◌, slice_index}
 use Rattle.std.proofs.Math.Nat.{le_of_mul-le-mul_right}
 use Rattle.std.proofs.lemmas.Int.{ints}
 use Rattle.std.proofs.lemmas.Nat.{pow-add}
@@ -9,8 +9,8 @@ use Rattle.log_laws.specs.Fraction.{Fraction, IsFraction, product_of}
 use Rattle.log_laws.specs.LogSum.{IsPositive}
 use Rattle.log_laws.proofs.Exports.{product_pos, ≤ℤ_trans}
 use Rattle.case_types.specs.declared.cases.Case.{Case}
+use Rattle.case_types.specs.declared.cells.BoxX.{BoxX}
 use Rattle.case_types.specs.Bounds.{Box, covolume_range}
-use Rattle.case_types.specs.Faults.{fault_of}
 use Rattle.case_types.specs.Numbers.{Numbers, numbers_of}
 use Rattle.case_types.specs.Ranges.{is_each_up_to, is_each_at_most}
 use Rattle.case_types.specs.Divisions.{State, moles, mole_fraction, mean_attraction}
@@ -60,6 +60,16 @@ each_at_most n xs ys h i l = at_most (slice_index xs i) (slice_index ys i) (all_
   where
     at_most : (a b : ℕ) → IsTrue (nat_le a b) → a ≤ b
     at_most a b h = grind (arith, h)
+
+-- the fractions of a box are at most one
+pub fraction_b : (x : BoxX) (i : ℕ) → i < 4 → slice_index x.b i ≤ 2 ^ 40
+fraction_b x i h = each_up_to 4 x.b (2 ^ 40) x.inside i h
+
+pub fraction_a : (x : BoxX) (i : ℕ) → i < 4 → slice_index x.a i ≤ 2 ^ 40
+fraction_a x i h =
+    let most = fraction_b x i h in
+    let below = each_at_most 4 x.a x.b x.ordered i h in
+    omega (arith, most, below)
 
 -- ---- ends in order
 -- a factor that is not 0 is taken off both sides

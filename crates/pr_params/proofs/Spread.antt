@@ -1,12 +1,14 @@
 -- Whole parts that lie between ends of a box, and the sums that bound their means.
-use Rattle.std.proofs.Common.{◌≡◌, ℕ, zero, suc, ◌+◌, ◌*◌, ◌<◌, ◌≤◌, inl, inr, refl, arith, ℤ, pos, negsuc, ◌+ℤ◌, ◌*ℤ◌, ◌≤ℤ◌, ◌<ℤ◌, Bool, true, false, cond, ◌^◌, unsigned_abs, to_z, of_z}
+use Rattle.std.proofs.Common.{◌≡◌, ℕ, zero, suc, ◌+◌, ◌*◌, ◌<◌, ◌≤◌, inl, inr, refl, arith, ℤ, pos, negsuc, ◌+ℤ◌, ◌*ℤ◌, ◌≤ℤ◌, ◌<ℤ◌, Bool, true, false, cond, ◌^◌, unsigned_abs, to_z, of_z, lit<}
 use Rattle.std.specs.Prelude.{int_lt}
 use Rattle.std.specs.Int.{int_min, int_max, w128}
 use Rattle.std.proofs.lemmas.Bool.{cases_lt}
 use Rattle.std.proofs.lemmas.Int.{ints, clamps}
-use Rattle.std.proofs.Math.Nat.{mul-le-mul_left, mul-le-mul_right}
+use Rattle.std.proofs.Math.Nat.{mul-le-mul_left, mul-le-mul_right, div-le_of_le-mul}
 use Rattle.log_laws.specs.Sums.{sum_below, int_sum_below, least_below, greatest_below}
-use Rattle.log_laws.proofs.Exports.{up-mul, down-mul, mul-le_ℤ, mul-add_ℤ, scale_scale, ≤ℤ_trans, back}
+use Rattle.log_laws.proofs.Exports.{up-mul, down-mul, mul-le_ℤ, mul-add_ℤ, scale_scale, ≤ℤ_trans, back, ceil_over-pos}
+use Rattle.log_laws.specs.Whole.{floor_div, ceil_div, ceil_quotient}
+use Rattle.pr_params.proofs.Sizes.{ceiling_at_most}
 
 -- ---- least and greatest
 pub least-le : (n i : ℕ) (f : ℕ → ℤ) (first : ℤ) → i < n → least_below n f first ≤ℤ f i
@@ -132,8 +134,43 @@ pub grown : (i : ℕ) (f : ℕ → ℤ) (sum share : ℤ) → i < 4 → unsigned
     × (unsigned_abs (to_z w128 (of_z w128 (sum +ℤ to_z w128 (of_z w128 share)))) ≤ (i + 1) * 2 ^ 103)
 grown i f sum share few h k is at =
     let read : to_z w128 (of_z w128 share) ≡ share = back share (omega (arith, k)) in
-    let all : to_z w128 (of_z w128 (sum +ℤ share)) ≡ sum +ℤ share = back (sum +ℤ share) (omega (arith, ints, h, k, few)) in
-    (
+    let all : to_z w128 (of_z w128 (sum +ℤ share)) ≡ sum +ℤ share = back (sum +ℤ share) (omega (arith, ints, h, k, few)) in (
       rw (read, all, sum-more i f) (rw (is, at) refl),
       rw (read, all) (omega (arith, ints, h, k)),
     )
+
+pub added : (i : ℕ) (f : ℕ → ℤ) (sum share : ℤ) (w : ℕ) → i < 4 → w ≤ 2 ^ 103 → pos 0 ≤ℤ sum → sum ≤ℤ pos (i * w) → pos 0 ≤ℤ share → share ≤ℤ pos w
+    → sum ≡ int_sum_below i f → share ≡ f i
+    → (to_z w128 (of_z w128 (sum +ℤ to_z w128 (of_z w128 share))) ≡ int_sum_below (i + 1) f)
+    × (pos 0 ≤ℤ to_z w128 (of_z w128 (sum +ℤ to_z w128 (of_z w128 share))))
+    × (to_z w128 (of_z w128 (sum +ℤ to_z w128 (of_z w128 share))) ≤ℤ pos ((i + 1) * w))
+added i f sum share w few wide low high from to is at =
+    let three = mul-le-mul_right w few' in
+    let read : to_z w128 (of_z w128 share) ≡ share = back share (omega (arith, ints, from, to, wide)) in
+    let all : to_z w128 (of_z w128 (sum +ℤ share)) ≡ sum +ℤ share = back (sum +ℤ share) (omega (arith, ints, low, high, from, to, wide, three)) in (
+      rw (read, all, sum-more i f) (rw (is, at) refl),
+      rw (read, all) (omega (arith, ints, low, from)),
+      rw (read, all) (omega (arith, ints, high, to)),
+    )
+  where
+    few' : i ≤ 3
+    few' = omega (arith, few)
+
+-- a number in 2^-40 of one that isn't negative
+at_most_times : (n w : ℕ) → pos n ≤ℤ pos (w * 2 ^ 40) → n ≤ 2 ^ 40 * w
+at_most_times n w k = omega (arith, ints, k)
+
+pub floor_sizes : (z : ℤ) (w : ℕ) → pos 0 ≤ℤ z → z ≤ℤ pos (w * 2 ^ 40) → (pos 0 ≤ℤ floor_div z (pos (2 ^ 40))) × (floor_div z (pos (2 ^ 40)) ≤ℤ pos w)
+floor_sizes (pos n) w h k = let q = div-le_of_le-mul (2 ^ 40) (at_most_times n w k) in (omega (arith, ints), omega (arith, ints, q))
+floor_sizes (negsuc n) w h k = absurd (omega (arith, ints, h))
+
+pub ceil_sizes : (z : ℤ) (w : ℕ) → pos 0 ≤ℤ z → z ≤ℤ pos (w * 2 ^ 40) → (pos 0 ≤ℤ ceil_div z (pos (2 ^ 40))) × (ceil_div z (pos (2 ^ 40)) ≤ℤ pos w)
+ceil_sizes (pos n) w h k =
+    let q : ceil_quotient n (2 ^ 40) ≤ w = ceiling_at_most n (2 ^ 40) w (lit< tt) (omega (arith, ints, k)) in
+    rw (ceil_over-pos n (2 ^ 40) (lit< tt)) (omega (arith, ints), omega (arith, ints, q))
+ceil_sizes (negsuc n) w h k = absurd (omega (arith, ints, h))
+
+-- a fraction of a number is at most the number in 2^-40
+pub share_at_most : (n : ℕ) (z : ℤ) → n ≤ 2 ^ 40 → pos 0 ≤ℤ z → (pos n *ℤ z) ≤ℤ (z *ℤ pos (2 ^ 40))
+share_at_most n (pos z) h k = let q = mul-le-mul_right z h in omega (arith, ints, q)
+share_at_most n (negsuc z) h k = absurd (omega (arith, ints, k))

@@ -2,7 +2,7 @@
 use Rattle.std.proofs.Common.{ℕ, zero, suc, ◌+◌, ◌*◌, ◌<◌, ◌≤◌, arith, lit<, ℤ, pos, ◌*ℤ◌, ◌≤ℤ◌}
 use Rattle.std.proofs.lemmas.Int.{ints}
 use Rattle.std.proofs.Math.Nat.{mul-le-mul_right}
-use Rattle.log_laws.specs.Fraction.{Fraction, IsAtMost, whole, sum_of, product_of}
+use Rattle.log_laws.specs.Fraction.{Fraction, IsAtMost, sum_of, product_of}
 use Rattle.log_laws.specs.LogSum.{ratio}
 use Rattle.log_laws.specs.Sums.{sum_below, fraction_sum_below}
 use Rattle.log_laws.specs.Whole.{positive_part, negative_part}

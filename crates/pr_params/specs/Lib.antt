@@ -3,3 +3,5 @@ pub mod Boxes
 pub mod One
 pub mod Packings
 pub mod Kept
+pub mod Entries
+pub mod Lifting

@@ -8,6 +8,7 @@ ghost use Rattle.case_types.specs.Tables.{ends_of_pair};
 ghost use Rattle.case_types.specs.Bounds.{low_fraction, high_fraction, attraction_low as least_attraction, attraction_high as most_attraction};
 ghost use Rattle.pr_params.specs.Boxes.{box_of};
 
+use crate::covolume_means::{floored, raised};
 use crate::numbers::Params;
 use crate::readers::attraction_of;
 use case_types::BoxX;
@@ -22,7 +23,7 @@ pub fn attraction_low(params: &Params, x: &BoxX) -> i128
     for i in 0..params.case.n {
         sum += share(x.a[i as usize], low_row(params, x, i));
     }
-    sum >> 40
+    floored(sum)
 }
 
 /// The mean attraction at most, in `2^-(49+lift)`.
@@ -50,7 +51,7 @@ fn low_row(params: &Params, x: &BoxX, i: u8) -> i128
     for j in 0..params.case.n {
         sum += share(x.a[j as usize], attraction_of(params, i, j).lo);
     }
-    sum >> 40
+    floored(sum)
 }
 
 /// The mean attraction of a component with all, at most.
@@ -78,15 +79,4 @@ fn share(fraction: u64, number: i128) -> i128
     ensures high { result ≤ℤ pos (2 ^ 103) }
 {
     fraction as i128 * number
-}
-
-/// A number in 2^-40, rounded up.
-fn raised(z: i128) -> i128
-    requires low { pos 0 ≤ℤ z }
-    requires high { z ≤ℤ pos (2 ^ 106) }
-    ensures value { result ≡ ceil_div z (pos (2 ^ 40)) }
-    ensures low { pos 0 ≤ℤ result }
-    ensures high { result ≤ℤ pos (2 ^ 66) }
-{
-    -(-z >> 40)
 }

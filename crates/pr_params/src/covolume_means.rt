@@ -94,15 +94,19 @@ fn last_and_rises(last: i128, rises: i128) -> i128
 fn low_rises(params: &Params, x: &BoxX) -> i128
     ensures value { let b = (numbers_of params.now.case).covolumes in let rest = params.now.case.n - 1 in
         result ≡ int_sum_below rest (λ i. int_min
-            (((ends_at b i).lo -ℤ (ends_at b rest).hi) *ℤ low_fraction (box_of x.now) i)
-            (((ends_at b i).lo -ℤ (ends_at b rest).hi) *ℤ high_fraction (box_of x.now) i)) }
+        (((ends_at b i).lo -ℤ (ends_at b rest).hi) *ℤ low_fraction (box_of x.now) i)
+        (((ends_at b i).lo -ℤ (ends_at b rest).hi) *ℤ high_fraction (box_of x.now) i)) }
     ensures small { unsigned_abs result ≤ 2 ^ 105 }
 {
     let rest = params.case.n - 1;
     let last = covolume_of(params, rest).hi;
     let mut sum = 0;
     for i in 0..rest {
-        sum += least_share(covolume_of(params, i).lo - last, x.a[i as usize], x.b[i as usize]);
+        sum += least_share(
+            covolume_of(params, i).lo - last,
+            x.a[i as usize],
+            x.b[i as usize],
+        );
     }
     sum
 }
@@ -111,15 +115,19 @@ fn low_rises(params: &Params, x: &BoxX) -> i128
 fn high_rises(params: &Params, x: &BoxX) -> i128
     ensures value { let b = (numbers_of params.now.case).covolumes in let rest = params.now.case.n - 1 in
         result ≡ int_sum_below rest (λ i. int_max
-            (((ends_at b i).hi -ℤ (ends_at b rest).lo) *ℤ low_fraction (box_of x.now) i)
-            (((ends_at b i).hi -ℤ (ends_at b rest).lo) *ℤ high_fraction (box_of x.now) i)) }
+        (((ends_at b i).hi -ℤ (ends_at b rest).lo) *ℤ low_fraction (box_of x.now) i)
+        (((ends_at b i).hi -ℤ (ends_at b rest).lo) *ℤ high_fraction (box_of x.now) i)) }
     ensures small { unsigned_abs result ≤ 2 ^ 105 }
 {
     let rest = params.case.n - 1;
     let last = covolume_of(params, rest).lo;
     let mut sum = 0;
     for i in 0..rest {
-        sum += greatest_share(covolume_of(params, i).hi - last, x.a[i as usize], x.b[i as usize]);
+        sum += greatest_share(
+            covolume_of(params, i).hi - last,
+            x.a[i as usize],
+            x.b[i as usize],
+        );
     }
     sum
 }
@@ -132,7 +140,11 @@ fn least_share(step: i128, a: u64, b: u64) -> i128
     ensures value { result ≡ int_min (step *ℤ pos a) (step *ℤ pos b) }
     ensures small { unsigned_abs result ≤ 2 ^ 101 }
 {
-    if step < 0 { times(step, b) } else { times(step, a) }
+    if step < 0 {
+        times(step, b)
+    } else {
+        times(step, a)
+    }
 }
 
 /// A step times a fraction from `a` to `b`, at most.
@@ -143,7 +155,11 @@ fn greatest_share(step: i128, a: u64, b: u64) -> i128
     ensures value { result ≡ int_max (step *ℤ pos a) (step *ℤ pos b) }
     ensures small { unsigned_abs result ≤ 2 ^ 101 }
 {
-    if step < 0 { times(step, a) } else { times(step, b) }
+    if step < 0 {
+        times(step, a)
+    } else {
+        times(step, b)
+    }
 }
 
 /// A step times a fraction.

@@ -29,34 +29,15 @@ pub fn covolume_den(pc: u32, t: u32) -> u128
     5000 * pc as u128 * t as u128
 }
 
-/// How many bits `num / den` can be raised by and stay at most 32, but 29 bits at most.
-pub fn lift_of(num: u128, den: u128) -> u32
-    requires num { num < 2 ^ 56 }
-    requires den { den < 2 ^ 59 }
-    requires range { num ≤ 32 * den }
-    ensures small { result ≤ 29 }
-    ensures lifted { num * 2 ^ result ≤ 32 * den }
-    ensures greatest { result < 29 → 32 * den < num * 2 ^ (result + 1) }
-{
-    let mut lift = 0;
-    let mut lifted = num;
-    while lift < 29 && 2 * lifted <= 32 * den {
-        lift += 1;
-        lifted = 2 * lifted;
-    }
-    lift
-}
-
 /// The ends of `num / den`, in `2^-(56+lift)`.
 pub fn covolume(num: u128, den: u128, lift: u32) -> Iv
     requires positive { 1 ≤ den }
     requires den { den < 2 ^ 59 }
     requires lift { lift ≤ 29 }
     requires lifted { num * 2 ^ lift ≤ 32 * den }
-    requires not_small { 16 * den ≤ num * 2 ^ lift }
     ensures lo { result.lo ≡ pos (num * 2 ^ (56 + lift) / den) }
     ensures hi { result.hi ≡ pos (ceil_quotient (num * 2 ^ (56 + lift)) den) }
-    ensures low { pos (2 ^ 60) ≤ℤ result.lo }
+    ensures low { pos 0 ≤ℤ result.lo }
     ensures high { result.hi ≤ℤ pos (2 ^ 61) }
 {
     let (lo, hi) = ratio_ends(num, den, 56 + lift);

@@ -8,15 +8,26 @@
 mod alphas;
 mod attraction_means;
 mod attractions;
+mod bases;
+mod by_component;
+mod by_pair;
 mod covolume_means;
 mod covolumes;
 mod lambdas;
+mod lifted;
+mod lifting;
 mod making;
+#[cfg(test)]
+mod mixtures;
 mod naturals;
 mod numbers;
 mod pulls;
 mod ranges;
 mod readers;
+#[cfg(test)]
+mod sample_numbers;
+#[cfg(test)]
+mod samples;
 #[cfg(test)]
 mod tests;
 

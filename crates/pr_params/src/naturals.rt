@@ -1,6 +1,8 @@
 //! Intervals of numbers that aren't negative.
 
-ghost use Rattle.std.specs.Prelude.{◌≡◌, ◌<◌, ◌≤◌, ◌^◌, pos};
+ghost use Rattle.std.specs.Prelude.{◌≡◌, ◌<◌, ◌≤◌, ◌^◌, pos, ◌≤ℤ◌};
+ghost use Rattle.case_types.specs.Tables.{no_ends};
+ghost use Rattle.fix_interval.specs.Interval.{ends, ends_of};
 
 use fix_interval::Iv;
 
@@ -15,4 +17,21 @@ pub fn interval(lo: u128, hi: u128) -> Iv
         lo: lo as i128,
         hi: hi as i128,
     }
+}
+
+/// The interval from 0 to 0.
+pub fn none() -> Iv
+    ensures { ends_of result ≡ no_ends }
+{
+    Iv { lo: 0, hi: 0 }
+}
+
+/// The two ends of an interval of numbers that aren't negative.
+pub fn natural_ends(v: Iv) -> (u128, u128)
+    requires { pos 0 ≤ℤ v.lo }
+    ensures ends { ends (pos result.0) (pos result.1) ≡ ends_of v }
+    ensures ordered { result.0 ≤ result.1 }
+    ensures small { result.1 < 2 ^ 62 }
+{
+    (v.lo as u128, v.hi as u128)
 }

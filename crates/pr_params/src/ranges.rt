@@ -1,7 +1,7 @@
 //! The mean co-volume and the mean attraction over it, at every composition of a box.
 
-ghost use Rattle.std.specs.Prelude.{◌≡◌, ◌≤◌, ◌<◌, ◌^◌, ◌+◌, pos, ◌*ℤ◌, ◌≤ℤ◌, slice_index};
-ghost use Rattle.log_laws.specs.Whole.{floor_div, ceil_div};
+ghost use Rattle.std.specs.Prelude.{◌≡◌, ◌≤◌, ◌<◌, ◌^◌, ◌+◌, ◌*◌, ◌/◌, pos, ◌*ℤ◌, ◌≤ℤ◌, slice_index};
+ghost use Rattle.log_laws.specs.Whole.{floor_div, ceil_div, ceil_quotient};
 ghost use Rattle.fix_interval.specs.Interval.{ends_of};
 ghost use Rattle.log_laws.specs.Between.{IsBetween};
 ghost use Rattle.log_laws.specs.Fraction.{IsAtMost};
@@ -73,7 +73,17 @@ fn ratio_up(attraction: i128, covolume: i128) -> i128
     ensures low { pos 0 ≤ℤ result }
     ensures high { result ≤ℤ pos (2 ^ 64) }
 {
-    (attraction as u128 * (1 << 47)).div_ceil(covolume as u128) as i128
+    ceil_ratio(attraction as u128, covolume as u128) as i128
+}
+
+/// The same for natural numbers.
+fn ceil_ratio(attraction: u128, covolume: u128) -> u128
+    requires attraction { attraction ≤ 2 ^ 66 }
+    requires covolume { 2 ^ 50 ≤ covolume }
+    ensures value { result ≡ ceil_quotient (attraction * 2 ^ 47) covolume }
+    ensures high { result ≤ 2 ^ 64 }
+{
+    (attraction * (1 << 47)).div_ceil(covolume)
 }
 
 /// The floor of an attraction over a co-volume, in 2^-40, from ends in `2^-(49+lift)` and `2^-(56+lift)`.
@@ -84,8 +94,19 @@ fn ratio_down(attraction: i128, covolume: i128) -> i128
     requires covolume_high { covolume ≤ℤ pos (2 ^ 61) }
     ensures value { result ≡ floor_div (attraction *ℤ pos (2 ^ 47)) covolume }
     ensures low { pos 0 ≤ℤ result }
+    ensures high { result ≤ℤ pos (2 ^ 64) }
 {
-    (attraction as u128 * (1 << 47) / covolume as u128) as i128
+    floor_ratio(attraction as u128, covolume as u128) as i128
+}
+
+/// The same for natural numbers.
+fn floor_ratio(attraction: u128, covolume: u128) -> u128
+    requires attraction { attraction ≤ 2 ^ 66 }
+    requires covolume { 2 ^ 50 ≤ covolume }
+    ensures value { result ≡ attraction * 2 ^ 47 / covolume }
+    ensures high { result ≤ 2 ^ 64 }
+{
+    attraction * (1 << 47) / covolume
 }
 
 /// The least fraction of the first component, in 2^-40.

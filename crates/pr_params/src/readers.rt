@@ -78,8 +78,10 @@ pub fn attraction_of(params: &Params, i: u8, j: u8) -> Iv
     ensures low { pos 0 ≤ℤ result.lo }
     ensures high { result.hi ≤ℤ pos (2 ^ 61) }
 {
-    let row = params.a[i as usize];
-    row[j as usize]
+    match params.a.get(i as usize) {
+        Some(row) => row[j as usize],
+        None => unreachable!(),
+    }
 }
 
 /// The greatest attraction over a co-volume, in 2^-40.

@@ -1,21 +1,18 @@
 //! Parameters of one component against numbers that an independent program computed.
 
-ghost use Rattle.std.specs.Prelude.{◌≡◌, IfSome, IsTrue};
-ghost use Rattle.case_types.specs.Ranges.{is_critical_temperature, is_critical_pressure, is_acentric_factor};
+ghost use Rattle.std.specs.Prelude.{◌≡◌, IfSome};
 
 use crate::making::params;
+use crate::mixtures::{ends, row_of};
 use crate::numbers::Params;
 use crate::readers::{attraction_of, covolume_of, greatest_of};
-use case_types::{Case, Name, ParamFault, Row, SLOTS};
-use fix_interval::Iv;
+use crate::samples::Ends;
+use case_types::{Case, ParamFault, SLOTS};
 use std::test::Fail;
 
 /// The critical temperature in mK and pressure in Pa, the acentric factor in 1e-4, the temperature in mK and the pressure
 /// in Pa.
 type Conditions = (u32, u32, i32, u32, u32);
-
-/// The two ends of an enclosure.
-type Ends = [i128; 2];
 
 /// The lift, then the root of T/Tc, the co-volume, the root of alpha and the attraction without alpha and with it, then the
 /// greatest ratio.
@@ -375,22 +372,6 @@ const CASES: [(Conditions, Result<Numbers, ParamFault>); 31] = [
     ),
 ];
 
-/// The component, if its numbers are in their ranges.
-fn row_of(tc: u32, pc: u32, w: i32) -> Option<Row>
-    ensures tc { IfSome result (λ r. IsTrue (is_critical_temperature r.tc)) }
-    ensures pc { IfSome result (λ r. IsTrue (is_critical_pressure r.pc)) }
-    ensures w { IfSome result (λ r. IsTrue (is_acentric_factor r.w)) }
-{
-    if tc < 5_000 || tc > 1_500_000 || pc < 100_000 || pc > 50_000_000 || w < -5_000 || w > 15_000 {
-        return None;
-    }
-    let name = Name {
-        len: 0,
-        bytes: [0; 16],
-    };
-    Some(Row { name, tc, pc, w })
-}
-
 /// The case of one component, if its numbers are in their ranges.
 fn case_of(conditions: Conditions) -> Option<Case>
     ensures { IfSome result (λ c. c.n ≡ 1) }
@@ -399,7 +380,7 @@ fn case_of(conditions: Conditions) -> Option<Case>
     if t < 50_000 || t > 1_500_000 || p < 1_000 || p > 100_000_000 {
         return None;
     }
-    let row = row_of(tc, pc, w)?;
+    let row = row_of((tc, pc, w))?;
     Some(Case {
         n: 1,
         rows: [row; SLOTS],
@@ -409,11 +390,6 @@ fn case_of(conditions: Conditions) -> Option<Case>
         t,
         p,
     })
-}
-
-/// The ends of an enclosure.
-fn ends(v: Iv) -> Ends {
-    [v.lo, v.hi]
 }
 
 /// The ends of the attraction without alpha.

@@ -1,4 +1,4 @@
-use Rattle.std.proofs.Common.{◌≡◌, ◌*◌, ◌^◌, ◌≤◌, pos, ◌≤ℤ◌, ◌*ℤ◌}
+use Rattle.std.proofs.Common.{◌≡◌, ◌*◌, ◌^◌, pos, ◌≤ℤ◌, ◌*ℤ◌}
 use Rattle.log_laws.specs.Sums.{int_sum_below}
 use Rattle.log_laws.specs.Whole.{floor_div}
 use Rattle.case_types.specs.Bounds.{low_fraction}

@@ -1,7 +1,6 @@
-use Rattle.std.proofs.Common.{◌≡◌, ◌∙◌, sym, ap, arith, ℕ, ℤ, pos, ◌≤ℤ◌, ◌^◌, ◌<◌, ◌-◌, ◌+ℤ◌, ◌-ℤ◌, ◌*ℤ◌, ◌≤◌, List, IsTrue, unsigned_abs, slice_index, to_z, of_z}
+use Rattle.std.proofs.Common.{◌≡◌, ◌∙◌, sym, ap, arith, ℕ, ℤ, ◌^◌, ◌<◌, ◌-◌, ◌-ℤ◌, ◌*ℤ◌, ◌≤◌, List, IsTrue, slice_index, to_z}
 use Rattle.std.specs.Int.{int_max}
 use Rattle.std.specs.Int.{w128}
-use Rattle.std.proofs.lemmas.Int.{ints, clamps}
 use Rattle.log_laws.specs.Between.{Ends}
 use Rattle.log_laws.specs.Sums.{int_sum_below}
 use Rattle.case_types.specs.Bounds.{low_fraction, high_fraction}

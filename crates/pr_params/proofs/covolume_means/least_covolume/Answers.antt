@@ -1,4 +1,4 @@
-use Rattle.std.proofs.Common.{◌≡◌, ◌∙◌, sym, ap, arith, ℕ, ℤ, pos, ◌≤ℤ◌, ◌^◌}
+use Rattle.std.proofs.Common.{◌≡◌, ◌∙◌, sym, ap, arith, ℕ, ℤ}
 use Rattle.std.proofs.lemmas.Int.{ints, clamps}
 use Rattle.log_laws.specs.Between.{Ends}
 use Rattle.log_laws.proofs.Exports.{back}
@@ -15,8 +15,7 @@ loop-i-init c =
     let low = c.covolume_of-least.ensures.low in
     let high = c.covolume_of-least.ensures.high in
     let order = v.ordered in
-    let read = back v.lo (omega (arith, ints, low, high, order)) in
-    (
+    let read = back v.lo (omega (arith, ints, low, high, order)) in (
       read ∙ ap (λ (e : Ends). e.lo) c.covolume_of-least.ensures.ends ∙ sym (least-none (λ i. (ends_at (numbers_of c.args.params.now.case).covolumes i).lo) (ends_at (numbers_of c.args.params.now.case).covolumes 0).lo),
       rw read (omega (arith, ints, low, high, order)),
       rw read (omega (arith, ints, low, high, order)),

@@ -1,4 +1,4 @@
-use Rattle.std.proofs.Common.{◌≡◌, ◌*◌, ◌^◌, ◌≤◌, pos, ◌≤ℤ◌}
+use Rattle.std.proofs.Common.{◌≡◌, ◌^◌, pos, ◌≤ℤ◌}
 use Rattle.log_laws.specs.Sums.{least_below}
 use Rattle.case_types.specs.Numbers.{numbers_of}
 use Rattle.case_types.specs.Tables.{ends_at}

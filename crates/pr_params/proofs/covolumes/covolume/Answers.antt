@@ -1,6 +1,6 @@
 use Rattle.std.proofs.Common.{◌+◌, ◌*◌, ◌^◌, arith}
 use Rattle.std.proofs.lemmas.Int.{ints}
-use Rattle.pr_params.proofs.Sizes.{quotient_low, quotient_high, ceiling_high, floor-le-ceiling}
+use Rattle.pr_params.proofs.Sizes.{quotient_high, ceiling_high, floor-le-ceiling}
 use Rattle.pr_params.proofs.covolumes.covolume.Goals as goal
 
 pub ratio_ends-lo-requires-clause-fits : goal.ratio_ends-lo-requires-clause-fits
@@ -16,9 +16,7 @@ interval-requires-clause-small c =
     omega (arith, p, c.ratio_ends-lo.ensures.hi)
 
 pub returns-clause-low : goal.returns-clause-low
-returns-clause-low c =
-    let p = quotient_low c.args.num c.args.den c.args.lift c.requires.positive c.requires.not_small in
-    omega (arith, ints, p, c.ratio_ends-lo.ensures.lo, c.interval.ensures.lo)
+returns-clause-low c = omega (arith, ints, c.ratio_ends-lo.ensures.lo, c.interval.ensures.lo)
 
 pub returns-clause-high : goal.returns-clause-high
 returns-clause-high c =

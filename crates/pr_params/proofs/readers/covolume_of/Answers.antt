@@ -1,4 +1,4 @@
-use Rattle.std.proofs.Common.{rules, ◌≡◌, ◌≤◌, ap, arith, length}
+use Rattle.std.proofs.Common.{rules, ◌≤◌, ap, arith, length}
 use Rattle.log_laws.specs.Between.{Ends}
 use Rattle.pr_params.proofs.AcceptedSizes.{covolume_least, covolume_most}
 use Rattle.pr_params.proofs.HeldAt.{covolume_held_at}
