@@ -28,7 +28,7 @@ greatest_above (suc n) f first i h = elim (cases_lt i n) [
     last : (g x : ℤ) → x ≤ℤ int_max g x
     last g x = omega (arith, ints, clamps)
 
-sums_ordered : (a b c d : ℤ) → a ≤ℤ b → c ≤ℤ d → (a +ℤ c) ≤ℤ (b +ℤ d)
+pub sums_ordered : (a b c d : ℤ) → a ≤ℤ b → c ≤ℤ d → (a +ℤ c) ≤ℤ (b +ℤ d)
 sums_ordered a b c d h k = omega (arith, ints, h, k)
 
 -- weights of numbers of at most g

@@ -2,20 +2,27 @@
 
 ghost use Rattle.std.specs.Prelude.{◌≡◌, ◌≤◌, ◌<◌, ◌^◌, pos, ◌*◌, ◌-ℤ◌, ◌*ℤ◌, unsigned_abs, slice_index};
 ghost use Rattle.std.specs.Int.{int_min};
+ghost use Rattle.log_laws.specs.Sums.{int_sum_below};
 ghost use Rattle.log_laws.specs.Whole.{floor_div};
 ghost use Rattle.case_types.specs.Numbers.{numbers_of};
 ghost use Rattle.case_types.specs.Bounds.{mixing_low};
 
+use crate::fractions::{fraction_hi, fraction_lo};
 use case_types::BoxX;
 use log_enclose::log2_lo;
-use pr_params::{Params, fraction_hi, fraction_lo};
+use pr_params::Params;
 
-/// The mixing term of the first component, at least.
+/// The sum of the mixing terms of all components, at least.
 pub fn entropy(params: &Params, x: &BoxX) -> i128
-    ensures value { result ≡ mixing_low (numbers_of params.now.case) (slice_index x.now.a 0) (slice_index x.now.b 0) }
-    ensures small { unsigned_abs result ≤ 2 ^ 48 }
+    ensures value { result ≡ int_sum_below params.now.case.n
+        (λ i. mixing_low (numbers_of params.now.case) (slice_index x.now.a i) (slice_index x.now.b i)) }
+    ensures small { unsigned_abs result ≤ 2 ^ 50 }
 {
-    mixing(params, fraction_lo(x), fraction_hi(x))
+    let mut sum = 0;
+    for i in 0..params.case.n {
+        sum += mixing(params, fraction_lo(x, i), fraction_hi(x, i));
+    }
+    sum
 }
 
 /// The mixing term `x log2 x` of a fraction from `a` to `b` in 2^-40, at least.

@@ -10,9 +10,8 @@ use Rattle.case_types.specs.Divisions.{bits, energy_of}
 use Rattle.log_laws.specs.LogSum.{AtLeast}
 use Rattle.case_types.specs.Numbers.{numbers_of}
 use Rattle.pr_params.specs.Boxes.{box_of}
-use Rattle.pr_params.proofs.Mean.{count_is}
 use Rattle.pr_params.proofs.Signed.{natural_value, difference_read}
-use Rattle.pr_params.proofs.Sized.{sized_one, each_up_to}
+use Rattle.pr_params.proofs.Sized.{count_of, sized_one, each_up_to}
 use Rattle.tangent_bound.proofs.EnergyLow.{energy_at_least}
 use Rattle.pr_params.proofs.ParametersHold.{holds_parameters}
 use Rattle.pr_params.proofs.MeansHold.{holds_means}
@@ -69,8 +68,8 @@ attraction c =
 value_is : (c : After-pull) → read (read c.lowered-energy.result -ℤ read c.pull.result) ≡ energy_low (numbers_of c.args.params.now.case) (box_of c.args.x.now) c.args.ylo c.args.yhi
 value_is c =
     read_is c
-    ∙ energy_low_is (numbers_of c.args.params.now.case) (box_of c.args.x.now) c.args.ylo c.args.yhi c.entropy.result c.volume.result
-    c.log_covolume-log.result c.log_rest.result c.pull.result (count_is c.args.params.now.case c.requires.one)
+    ∙ energy_low_is (numbers_of c.args.params.now.case) (box_of c.args.x.now) c.args.ylo c.args.yhi c.args.params.now.case.n c.entropy.result c.volume.result
+    c.log_covolume-log.result c.log_rest.result c.pull.result (count_of c.args.params.now.case)
     c.entropy.ensures.value (volume_is c) (logarithm c) c.log_rest.ensures.value (attraction c)
 
 pub returns-clause-value : goal.returns-clause-value
