@@ -27,8 +27,8 @@ rise_is (negsuc n) lo hi h g = absurd (omega (arith, ints, h))
 pub plane_is : (n : ℕ) (lam : List ℤ) (x : Box) (g last r c : ℤ) → g ≡ greatest_below n (λ i. slice_index_or lam i (pos 0)) (slice_index_or lam 0 (pos 0)) →
     last ≡ slice_index_or lam (n - 1) (pos 0) →
     r ≡ int_sum_below (n - 1) (λ i. int_max
-        ((slice_index_or lam i (pos 0) -ℤ slice_index_or lam (n - 1) (pos 0)) *ℤ pos (slice_index x.lo i))
-        ((slice_index_or lam i (pos 0) -ℤ slice_index_or lam (n - 1) (pos 0)) *ℤ pos (slice_index x.hi i))) →
+    ((slice_index_or lam i (pos 0) -ℤ slice_index_or lam (n - 1) (pos 0)) *ℤ pos (slice_index x.lo i))
+    ((slice_index_or lam i (pos 0) -ℤ slice_index_or lam (n - 1) (pos 0)) *ℤ pos (slice_index x.hi i))) →
     c ≡ ceil_div (last *ℤ pos one +ℤ r) (pos one) → int_min g c ≡ plane_high n lam x
 unfolding plane_high
 plane_is n lam x g last r c eg el er ec = rw (eg, ec, er, el) refl
@@ -105,8 +105,8 @@ pub plane_small : (n : ℕ) (lam : List ℤ) (x : Box) (g c : ℤ) → 1 ≤ n �
     c ≡ ceil_div
     (slice_index_or lam (n - 1) (pos 0) *ℤ pos one
     +ℤ int_sum_below (n - 1) (λ i. int_max
-        ((slice_index_or lam i (pos 0) -ℤ slice_index_or lam (n - 1) (pos 0)) *ℤ pos (slice_index x.lo i))
-        ((slice_index_or lam i (pos 0) -ℤ slice_index_or lam (n - 1) (pos 0)) *ℤ pos (slice_index x.hi i))))
+    ((slice_index_or lam i (pos 0) -ℤ slice_index_or lam (n - 1) (pos 0)) *ℤ pos (slice_index x.lo i))
+    ((slice_index_or lam i (pos 0) -ℤ slice_index_or lam (n - 1) (pos 0)) *ℤ pos (slice_index x.hi i))))
     (pos one) → unsigned_abs (int_min g c) < 2 ^ 80
 plane_small n lam x g c some few small whole most e =
     let each : (i : ℕ) → i < 4 → unsigned_abs (slice_index_or lam i (pos 0)) ≤ 2 ^ 80 - 1 = λ i l. let q = each_small 4 lam (2 ^ 80) small i l in omega (arith, q) in

@@ -40,7 +40,8 @@ pub fn low_energy(params: &Params, x: &BoxX, ylo: u64, yhi: u64) -> i128
 {
     let b = b_range(params, x);
     let ratio = g_hi(params, x);
-    let gain = gained(entropy(params, x), volume(params, b.lo as u128, ylo, yhi));
+    let mixing = entropy(params.case.n, params, x);
+    let gain = gained(mixing, volume(params, b.lo as u128, ylo, yhi));
     let log = log_covolume(params, b.hi as u128);
     let energy = lowered(gain, log, log_rest(ylo));
     energy - pull(params, ratio, yhi)

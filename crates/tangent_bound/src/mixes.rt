@@ -12,14 +12,15 @@ use case_types::BoxX;
 use log_enclose::log2_lo;
 use pr_params::Params;
 
-/// The sum of the mixing terms of all components, at least.
-pub fn entropy(params: &Params, x: &BoxX) -> i128
-    ensures value { result ≡ int_sum_below params.now.case.n
+/// The sum of the mixing terms of the first `n` components, at least.
+pub fn entropy(n: u8, params: &Params, x: &BoxX) -> i128
+    requires { n ≤ 4 }
+    ensures value { result ≡ int_sum_below n
         (λ i. mixing_low (numbers_of params.now.case) (slice_index x.now.a i) (slice_index x.now.b i)) }
     ensures small { unsigned_abs result ≤ 2 ^ 50 }
 {
     let mut sum = 0;
-    for i in 0..params.case.n {
+    for i in 0..n {
         sum += mixing(params, fraction_lo(x, i), fraction_hi(x, i));
     }
     sum
@@ -36,7 +37,7 @@ fn mixing(params: &Params, a: u64, b: u64) -> i128
         return 0;
     }
     let log = log2_lo(b as u128, 40);
-    lesser(whole(b, log), tangent(params, a, b, log))
+    whole(b, log).min(tangent(params, a, b, log))
 }
 
 /// The mixing term at the fraction `b`, rounded down, from the logarithm of `b`.
@@ -58,16 +59,6 @@ fn tangent(params: &Params, a: u64, b: u64, log: i128) -> i128
     ensures small { unsigned_abs result ≤ 2 ^ 48 }
 {
     floored(lessened(part(a, log), slope(params, a, b)))
-}
-
-/// The lesser of two numbers.
-fn lesser(a: i128, b: i128) -> i128
-    requires a { unsigned_abs a ≤ 2 ^ 48 }
-    requires b { unsigned_abs b ≤ 2 ^ 48 }
-    ensures value { result ≡ int_min a b }
-    ensures small { unsigned_abs result ≤ 2 ^ 48 }
-{
-    if a <= b { a } else { b }
 }
 
 /// A fraction times a logarithm.

@@ -28,7 +28,7 @@ pub fn plane_hi(n: u8, plane: &Plane, x: &BoxX) -> i128
     ensures small { unsigned_abs result < 2 ^ 80 }
 {
     let last = potential(plane, n - 1);
-    lesser(greatest(n, plane), from_last(last, rises(n, plane, x)))
+    greatest(n, plane).min(from_last(last, rises(n, plane, x)))
 }
 
 /// The potential of the component `i`.
@@ -49,22 +49,12 @@ fn greatest(n: u8, plane: &Plane) -> i128
 {
     let mut most = potential(plane, 0);
     for i in 1..n {
-        most = greater(most, potential(plane, i));
+        most = most.max(potential(plane, i));
     }
     most
 }
 
-/// The greater of two potentials.
-fn greater(a: i128, b: i128) -> i128
-    requires a { unsigned_abs a < 2 ^ 80 }
-    requires b { unsigned_abs b < 2 ^ 80 }
-    ensures value { result ≡ int_max a b }
-    ensures small { unsigned_abs result < 2 ^ 80 }
-{
-    if a < b { b } else { a }
-}
-
-/// The sum of what the plane rises by, from the potential of the last of `n` components, with the fractions of the others, in
+/// How far the plane rises above the potential of the last of `n` components with the fractions of the others, at most, in
 /// 2^-80 bit.
 fn rises(n: u8, plane: &Plane, x: &BoxX) -> i128
     requires one { 1 ≤ n }
@@ -93,7 +83,7 @@ fn step(potential: i128, last: i128) -> i128
     potential - last
 }
 
-/// What the plane rises by with a fraction from `lo` to `hi`, at most.
+/// How far the plane rises with a fraction from `lo` to `hi`, at most, in 2^-80 bit.
 fn rise(step: i128, lo: u64, hi: u64) -> i128
     requires step { unsigned_abs step ≤ 2 ^ 81 }
     requires ordered { lo ≤ hi }
@@ -108,7 +98,7 @@ fn rise(step: i128, lo: u64, hi: u64) -> i128
     }
 }
 
-/// A step times a fraction.
+/// A step times a fraction, in 2^-80 bit.
 fn product(step: i128, fraction: u64) -> i128
     requires step { unsigned_abs step ≤ 2 ^ 81 }
     requires fraction { fraction ≤ 2 ^ 40 }
@@ -118,18 +108,18 @@ fn product(step: i128, fraction: u64) -> i128
     step * fraction as i128
 }
 
-/// The last potential with the rises, rounded up.
+/// The last potential with the rises of the others, rounded up to 2^-40 bit.
 fn from_last(last: i128, rises: i128) -> i128
     requires last { unsigned_abs last < 2 ^ 80 }
     requires rises { unsigned_abs rises ≤ 3 * 2 ^ 121 }
     ensures value { result ≡ ceil_div (last *ℤ pos (2 ^ 40) +ℤ rises) (pos (2 ^ 40)) }
     ensures small { unsigned_abs result ≤ 2 ^ 83 }
 {
-    raised(risen(product_one(last), rises))
+    rounded_up(risen(rescaled(last), rises))
 }
 
 /// A potential in 2^-80 bit.
-fn product_one(last: i128) -> i128
+fn rescaled(last: i128) -> i128
     requires { unsigned_abs last < 2 ^ 80 }
     ensures value { result ≡ last *ℤ pos (2 ^ 40) }
     ensures small { unsigned_abs result ≤ 2 ^ 120 }
@@ -137,7 +127,7 @@ fn product_one(last: i128) -> i128
     last * ONE
 }
 
-/// The sum of the last potential and the rises.
+/// The last potential with the rises of the others, in 2^-80 bit.
 fn risen(last: i128, rises: i128) -> i128
     requires last { unsigned_abs last ≤ 2 ^ 120 }
     requires rises { unsigned_abs rises ≤ 3 * 2 ^ 121 }
@@ -147,21 +137,11 @@ fn risen(last: i128, rises: i128) -> i128
     last + rises
 }
 
-/// A number in 2^-40, rounded up.
-fn raised(z: i128) -> i128
+/// A number in 2^-80 bit, rounded up to 2^-40 bit.
+fn rounded_up(z: i128) -> i128
     requires { unsigned_abs z ≤ 7 * 2 ^ 120 }
     ensures value { result ≡ ceil_div z (pos (2 ^ 40)) }
     ensures small { unsigned_abs result ≤ 2 ^ 83 }
 {
     -((-z) >> 40)
-}
-
-/// The lesser of two numbers.
-fn lesser(a: i128, b: i128) -> i128
-    requires a { unsigned_abs a ≤ 2 ^ 80 }
-    requires b { unsigned_abs b ≤ 2 ^ 83 }
-    ensures value { result ≡ int_min a b }
-    ensures small { unsigned_abs result ≤ 2 ^ 83 }
-{
-    if a <= b { a } else { b }
 }

@@ -11,13 +11,12 @@ pub loop-i-preserved : goal.loop-i-preserved
 loop-i-preserved c =
     let t = c.mixing-sum.ensures.small in
     let small = c.loop-i.invariant.small in
-    let few = c.args.params.now.case.few in
     let term = rw (c.fraction_lo.ensures.value, c.fraction_hi.ensures.value) at c.mixing-sum.ensures.value in
-    let read = sum_read (to_z w128 c.loop-i.sum-bits) c.mixing-sum.result (omega (arith, small, few)) (omega (arith, t)) in
+    let read = sum_read (to_z w128 c.loop-i.sum-bits) c.mixing-sum.result (omega (arith, small)) (omega (arith, t)) in
     record {
       whole = read ∙ sum_next c.loop-i.i _ _ c.mixing-sum.result c.loop-i.invariant.whole term;
       small = rw read (omega (arith, ints, small, t));
     }
 
 pub returns-clause-value : goal.returns-clause-value
-returns-clause-value c = let e : c.loop-i.i ≡ c.args.params.now.case.n = omega (arith, c.loop-i-test.false) in rw e at c.loop-i.invariant.whole
+returns-clause-value c = let e : c.loop-i.i ≡ c.args.n = omega (arith, c.loop-i-test.false) in rw e at c.loop-i.invariant.whole
