@@ -1,5 +1,5 @@
 -- The upper end of a plane over a box from its terms, how large it is, and the low of a cell.
-use Rattle.std.proofs.Common.{◌≡◌, IsTrue, inl, inr, nat_lt, ℕ, zero, suc, ◌+◌, ◌-◌, ◌<◌, ◌≤◌, ◌^◌, ℤ, pos, negsuc, neg_ℤ, ◌+ℤ◌, ◌-ℤ◌, ◌*ℤ◌, ◌≤ℤ◌, refl, sym, ap, ◌∙◌, arith, lit<, unsigned_abs, slice_index, slice_index_or, List}
+use Rattle.std.proofs.Common.{◌≡◌, IsTrue, inl, inr, nat_lt, ℕ, zero, suc, ◌+◌, ◌-◌, ◌<◌, ◌≤◌, ◌^◌, ℤ, pos, negsuc, neg_ℤ, ◌+ℤ◌, ◌-ℤ◌, ◌*ℤ◌, ◌≤ℤ◌, refl, sym, ap, ◌∙◌, arith, lit<, unsigned_abs, slice_index, List}
 use Rattle.std.specs.Int.{int_min, int_max}
 use Rattle.std.proofs.Math.Nat.{mul-le-mul_left}
 use Rattle.std.proofs.lemmas.Bool.{cases_lt}
@@ -15,7 +15,7 @@ use Rattle.case_types.specs.Ranges.{is_each_below}
 use Rattle.log_laws.specs.Sums.{sum_below, greatest_below, int_sum_below}
 use Rattle.pr_params.proofs.Below.{all_below_at}
 use Rattle.pr_params.proofs.Sized.{cancelled}
-use Rattle.tangent_bound.proofs.PlaneBound.{sums_ordered}
+use Rattle.tangent_bound.proofs.PlaneBound.{sums_ordered, potential, rises}
 
 -- ---- the terms
 -- a step that isn't negative rises most with the greater fraction
@@ -24,14 +24,10 @@ rise_is (pos n) lo hi h g = omega (arith, ints, clamps, mul-le-mul_left n g)
 rise_is (negsuc n) lo hi h g = absurd (omega (arith, ints, h))
 
 -- the upper end from the greatest potential and from the last one with the rises of the others
-pub plane_is : (n : ℕ) (lam : List ℤ) (x : Box) (g last r c : ℤ) → g ≡ greatest_below n (λ i. slice_index_or lam i (pos 0)) (slice_index_or lam 0 (pos 0)) →
-    last ≡ slice_index_or lam (n - 1) (pos 0) →
-    r ≡ int_sum_below (n - 1) (λ i. int_max
-    ((slice_index_or lam i (pos 0) -ℤ slice_index_or lam (n - 1) (pos 0)) *ℤ pos (slice_index x.lo i))
-    ((slice_index_or lam i (pos 0) -ℤ slice_index_or lam (n - 1) (pos 0)) *ℤ pos (slice_index x.hi i))) →
-    c ≡ ceil_div (last *ℤ pos one +ℤ r) (pos one) → int_min g c ≡ plane_high n lam x
+pub plane_is : (n : ℕ) (lam : List ℤ) (x : Box) (g c : ℤ) → g ≡ greatest_below n (potential lam) (potential lam 0) →
+    c ≡ ceil_div (potential lam (n - 1) *ℤ pos one +ℤ rises lam x (n - 1)) (pos one) → int_min g c ≡ plane_high n lam x
 unfolding plane_high
-plane_is n lam x g last r c eg el er ec = rw (eg, ec, er, el) refl
+plane_is n lam x g c eg ec = rw (eg, ec) refl
 
 -- ---- how large it is
 -- the rises are at least those with the least fractions, of potentials of at least -limit
@@ -87,9 +83,9 @@ plane_least k f last lo hi limit each small whole =
     (le-ceil_over (last *ℤ pos one +ℤ t) one (lit< tt)))
 
 -- each potential is small
-pub each_small : (n : ℕ) (lam : List ℤ) (limit : ℕ) → IsTrue (is_each_below n lam limit) → (i : ℕ) → i < n → unsigned_abs (slice_index_or lam i (pos 0)) < limit
+pub each_small : (n : ℕ) (lam : List ℤ) (limit : ℕ) → IsTrue (is_each_below n lam limit) → (i : ℕ) → i < n → unsigned_abs (potential lam i) < limit
 each_small n lam limit h i l =
-    ltb-true (unsigned_abs (slice_index_or lam i (pos 0))) limit (all_below_at n (λ i. nat_lt (unsigned_abs (slice_index_or lam i (pos 0))) limit) i l h)
+    ltb-true (unsigned_abs (potential lam i)) limit (all_below_at n (λ i. nat_lt (unsigned_abs (potential lam i)) limit) i l h)
 
 -- fewer terms add up to less
 fewer_less : (m n : ℕ) (p : ℕ → ℕ) → m ≤ n → sum_below m p ≤ sum_below n p
@@ -102,15 +98,10 @@ fewer_less m (suc n) p h = elim (cases_lt n m) [
 -- a plane of small potentials is small over a box whose least fractions add up to at most 1
 pub plane_small : (n : ℕ) (lam : List ℤ) (x : Box) (g c : ℤ) → 1 ≤ n → n ≤ 4 → IsTrue (is_each_below 4 lam (2 ^ 80)) → sum_below 4 (slice_index x.lo) ≤ one →
     unsigned_abs g < 2 ^ 80 →
-    c ≡ ceil_div
-    (slice_index_or lam (n - 1) (pos 0) *ℤ pos one
-    +ℤ int_sum_below (n - 1) (λ i. int_max
-    ((slice_index_or lam i (pos 0) -ℤ slice_index_or lam (n - 1) (pos 0)) *ℤ pos (slice_index x.lo i))
-    ((slice_index_or lam i (pos 0) -ℤ slice_index_or lam (n - 1) (pos 0)) *ℤ pos (slice_index x.hi i))))
-    (pos one) → unsigned_abs (int_min g c) < 2 ^ 80
+    c ≡ ceil_div (potential lam (n - 1) *ℤ pos one +ℤ rises lam x (n - 1)) (pos one) → unsigned_abs (int_min g c) < 2 ^ 80
 plane_small n lam x g c some few small whole most e =
-    let each : (i : ℕ) → i < 4 → unsigned_abs (slice_index_or lam i (pos 0)) ≤ 2 ^ 80 - 1 = λ i l. let q = each_small 4 lam (2 ^ 80) small i l in omega (arith, q) in
-    let least = plane_least (n - 1) (λ i. slice_index_or lam i (pos 0)) (slice_index_or lam (n - 1) (pos 0)) (slice_index x.lo) (slice_index x.hi) (2 ^ 80 - 1)
+    let each : (i : ℕ) → i < 4 → unsigned_abs (potential lam i) ≤ 2 ^ 80 - 1 = λ i l. let q = each_small 4 lam (2 ^ 80) small i l in omega (arith, q) in
+    let least = plane_least (n - 1) (potential lam) (potential lam (n - 1)) (slice_index x.lo) (slice_index x.hi) (2 ^ 80 - 1)
     (λ i l. each i (omega (arith, l, few))) (each (n - 1) (omega (arith, some, few))) (let q = fewer_less (n - 1) 4 (slice_index x.lo) (omega (arith, few)) in omega (arith, q, whole)) in
     lesser g c most (rw (← e) at least)
   where

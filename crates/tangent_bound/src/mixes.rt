@@ -1,4 +1,4 @@
-//! The mixing term, at least.
+//! The mixing terms, at least.
 
 ghost use Rattle.std.specs.Prelude.{◌≡◌, ◌≤◌, ◌<◌, ◌^◌, pos, ◌*◌, ◌-ℤ◌, ◌*ℤ◌, unsigned_abs, slice_index};
 ghost use Rattle.std.specs.Int.{int_min};
