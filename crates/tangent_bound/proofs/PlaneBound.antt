@@ -28,7 +28,7 @@ greatest_above (suc n) f first i h = elim (cases_lt i n) [
     last : (g x : ℤ) → x ≤ℤ int_max g x
     last g x = omega (arith, ints, clamps)
 
-sums_ordered : (a b c d : ℤ) → a ≤ℤ b → c ≤ℤ d → (a +ℤ c) ≤ℤ (b +ℤ d)
+pub sums_ordered : (a b c d : ℤ) → a ≤ℤ b → c ≤ℤ d → (a +ℤ c) ≤ℤ (b +ℤ d)
 sums_ordered a b c d h k = omega (arith, ints, h, k)
 
 -- weights of numbers of at most g
@@ -94,10 +94,11 @@ by_rest (suc k) f r p = joined (int_sum_below k (λ i. f i *ℤ pos (p i))) (int
         rw (e, mul-add_ℤ r (pos m) (pos n), add-mul_ℤ x (neg_ℤ r) (pos n), neg-mul r (pos n)) (omega (arith, ints))
 
 -- ---- the plane
-abbrev potential : List ℤ → ℕ → ℤ
+abbrev pub potential : List ℤ → ℕ → ℤ
 potential lams i = slice_index_or lams i (pos 0)
 
-abbrev rises : List ℤ → Box → ℕ → ℤ
+-- how far the plane rises above the potential of the component k with the fractions of those before it, at most
+abbrev pub rises : List ℤ → Box → ℕ → ℤ
 rises lams x k =
     int_sum_below k (λ i. int_max ((potential lams i -ℤ potential lams k) *ℤ low_fraction x i) ((potential lams i -ℤ potential lams k) *ℤ high_fraction x i))
 

@@ -8,7 +8,7 @@ use Rattle.log_laws.specs.Squaring.{log_up, log_down}
 use Rattle.log_laws.specs.Whole.{floor_div, ceil_div}
 use Rattle.case_types.specs.Bounds.{Box, one, mixing_low, volume_low, covolume_scale, covolume_range, ratio_high, lambda_up, energy_low}
 use Rattle.case_types.specs.Numbers.{Numbers}
-use Rattle.pr_params.proofs.One.{sum_at_one}
+use Rattle.log_laws.specs.Sums.{int_sum_below}
 
 -- ---- mixing
 -- no fraction adds nothing
@@ -95,10 +95,9 @@ abbrev pub attraction_part : Numbers → Box → ℕ → ℤ
 attraction_part p x y = ceil_div (ratio_high p x *ℤ lambda_up p y *ℤ pos (2 ^ 19)) p.root_two.lo
 
 -- the lower energy from its terms
-pub energy_low_is : (p : Numbers) (x : Box) (yl yh : ℕ) (m v l k q : ℤ) → p.count ≡ 1 →
-    m ≡ mixing_low p (slice_index x.lo 0) (slice_index x.hi 0) → v ≡ volume_low p (covolume_range p x).lo yl yh →
+pub energy_low_is : (p : Numbers) (x : Box) (yl yh n : ℕ) (m v l k q : ℤ) → p.count ≡ n →
+    m ≡ int_sum_below n (λ i. mixing_low p (slice_index x.lo i) (slice_index x.hi i)) → v ≡ volume_low p (covolume_range p x).lo yl yh →
     l ≡ log_up (unsigned_abs (covolume_range p x).hi) (56 + p.lift) → k ≡ log_up (one - yl) 40 → q ≡ attraction_part p x yh →
     m +ℤ v -ℤ l -ℤ k -ℤ q ≡ energy_low p x yl yh
 unfolding energy_low
-energy_low_is p x yl yh m v l k q h em ev el ek eq =
-    rw (em, ev, el, ek, eq, sum_at_one p.count (λ i. mixing_low p (slice_index x.lo i) (slice_index x.hi i)) h) refl
+energy_low_is p x yl yh n m v l k q h em ev el ek eq = rw (em, ev, el, ek, eq, h) refl

@@ -162,12 +162,12 @@ volume_at_quotients p yn yd yl yh rn rd blo m cl ch right packing prd pcl ends s
 pub e_right : IsRight (2 ^ 24) 1586259924992 1586260020565 (2 ^ 40)
 e_right = let h = subst HoldsLogE printed_log_e holds_log_e_ends in record { m_pos = lit< tt; o_pos = lit< tt; low = h.above; high = h.below }
 
--- a covolume of 2 ^ 60 at least makes the flat packing 1 unit at least
-start_of : (l blo : ℕ) → l ≤ 29 → 2 ^ 60 ≤ blo → 1586260020565 * 2 ^ (16 + l) ≤ 1586259924992 * blo
+-- a covolume of 2 ^ 49 at least makes the flat packing 1 unit at least
+start_of : (l blo : ℕ) → l ≤ 29 → 2 ^ 49 ≤ blo → 1586260020565 * 2 ^ (16 + l) ≤ 1586259924992 * blo
 start_of l blo hl hb =
     let a : 2 ^ (16 + l) ≤ 2 ^ 45 = pow-le-pow_right (lit< tt) {i = 16 + l} {j = 45} (omega (arith, hl)) in
     let a' : 1586260020565 * 2 ^ (16 + l) ≤ 1586260020565 * 2 ^ 45 = mul-le-mul_left 1586260020565 a in
-    let b' : 1586259924992 * 2 ^ 60 ≤ 1586259924992 * blo = mul-le-mul_left 1586259924992 hb in omega (arith, a', b')
+    let b' : 1586259924992 * 2 ^ 49 ≤ 1586259924992 * blo = mul-le-mul_left 1586259924992 hb in omega (arith, a', b')
 
 rest_of : (cl cn cd blo bn bd s yn yd : ℕ) → cl * cd ≤ cn * 2 ^ 40 → blo * bd ≤ bn * (2 ^ 40 * s) →
     cl * blo * yd * (cd * bd * yn) ≤ cn * bn * yd * (s * (2 ^ 40 * (2 ^ 40 * yn)))
@@ -176,7 +176,7 @@ rest_of cl cn cd blo bn bd s yn yd h k =
     let q : cl * cd * (blo * bd) * (yd * yn) ≤ cn * 2 ^ 40 * (bn * (2 ^ 40 * s)) * (yd * yn) = mul-le-mul_right (yd * yn) p in
     omega arith
 
-pub volume_part_least : (p : Numbers) (c b y : Fraction) (yl yh blo : ℕ) (hi : ℤ) → p.log_e ≡ e_ends → p.lift ≤ 29 → 2 ^ 60 ≤ blo →
+pub volume_part_least : (p : Numbers) (c b y : Fraction) (yl yh blo : ℕ) (hi : ℤ) → p.log_e ≡ e_ends → p.lift ≤ 29 → 2 ^ 49 ≤ blo →
     IsBetween p.log_e (2 ^ 40) c → IsBetween (record { lo = pos blo; hi = hi }) (2 ^ (56 + p.lift)) b → IsPacking y →
     IsAtMost (ratio yl (2 ^ 40)) y → IsAtMost y (ratio yh (2 ^ 40)) → yh ≤ 2 ^ 40 →
     AtLeast (volume_part c b y) (bits (volume_low p (pos blo) yl yh))

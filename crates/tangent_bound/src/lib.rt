@@ -1,6 +1,7 @@
 //! Lower bounds of the reduced energy over a cell, and of how far it lies above a tangent plane.
 #![tactic(auto)]
 
+mod fractions;
 mod lower;
 mod mixes;
 mod plain;

@@ -40,7 +40,8 @@ pub fn low_energy(params: &Params, x: &BoxX, ylo: u64, yhi: u64) -> i128
 {
     let b = b_range(params, x);
     let ratio = g_hi(params, x);
-    let gain = gained(entropy(params, x), volume(params, b.lo as u128, ylo, yhi));
+    let mixing = entropy(params.case.n, params, x);
+    let gain = gained(mixing, volume(params, b.lo as u128, ylo, yhi));
     let log = log_covolume(params, b.hi as u128);
     let energy = lowered(gain, log, log_rest(ylo));
     energy - pull(params, ratio, yhi)
@@ -48,7 +49,7 @@ pub fn low_energy(params: &Params, x: &BoxX, ylo: u64, yhi: u64) -> i128
 
 /// The terms of the energy that are added.
 fn gained(mixing: i128, volume: i128) -> i128
-    requires mixing { unsigned_abs mixing ≤ 2 ^ 48 }
+    requires mixing { unsigned_abs mixing ≤ 2 ^ 50 }
     requires volume { unsigned_abs volume ≤ 2 ^ 87 }
     ensures value { result ≡ mixing +ℤ volume }
     ensures small { unsigned_abs result ≤ 2 ^ 88 }
@@ -78,7 +79,7 @@ fn log_rest(y: u64) -> i128
 
 /// The logarithm of a co-volume, at most.
 fn log_covolume(params: &Params, b: u128) -> i128
-    requires low { 2 ^ 60 ≤ b }
+    requires low { 2 ^ 49 ≤ b }
     requires high { b ≤ 2 ^ 61 }
     ensures value { result ≡ log_up b (56 + (numbers_of params.now.case).lift) }
     ensures small { unsigned_abs result ≤ 2 ^ 47 }

@@ -1,21 +1,29 @@
-//! The mixing term, at least.
+//! The mixing terms, at least.
 
 ghost use Rattle.std.specs.Prelude.{◌≡◌, ◌≤◌, ◌<◌, ◌^◌, pos, ◌*◌, ◌-ℤ◌, ◌*ℤ◌, unsigned_abs, slice_index};
 ghost use Rattle.std.specs.Int.{int_min};
+ghost use Rattle.log_laws.specs.Sums.{int_sum_below};
 ghost use Rattle.log_laws.specs.Whole.{floor_div};
 ghost use Rattle.case_types.specs.Numbers.{numbers_of};
 ghost use Rattle.case_types.specs.Bounds.{mixing_low};
 
+use crate::fractions::{fraction_hi, fraction_lo};
 use case_types::BoxX;
 use log_enclose::log2_lo;
-use pr_params::{Params, fraction_hi, fraction_lo};
+use pr_params::Params;
 
-/// The mixing term of the first component, at least.
-pub fn entropy(params: &Params, x: &BoxX) -> i128
-    ensures value { result ≡ mixing_low (numbers_of params.now.case) (slice_index x.now.a 0) (slice_index x.now.b 0) }
-    ensures small { unsigned_abs result ≤ 2 ^ 48 }
+/// The sum of the mixing terms of the first `n` components, at least.
+pub fn entropy(n: u8, params: &Params, x: &BoxX) -> i128
+    requires { n ≤ 4 }
+    ensures value { result ≡ int_sum_below n
+        (λ i. mixing_low (numbers_of params.now.case) (slice_index x.now.a i) (slice_index x.now.b i)) }
+    ensures small { unsigned_abs result ≤ 2 ^ 50 }
 {
-    mixing(params, fraction_lo(x), fraction_hi(x))
+    let mut sum = 0;
+    for i in 0..n {
+        sum += mixing(params, fraction_lo(x, i), fraction_hi(x, i));
+    }
+    sum
 }
 
 /// The mixing term `x log2 x` of a fraction from `a` to `b` in 2^-40, at least.
@@ -29,7 +37,7 @@ fn mixing(params: &Params, a: u64, b: u64) -> i128
         return 0;
     }
     let log = log2_lo(b as u128, 40);
-    lesser(whole(b, log), tangent(params, a, b, log))
+    whole(b, log).min(tangent(params, a, b, log))
 }
 
 /// The mixing term at the fraction `b`, rounded down, from the logarithm of `b`.
@@ -51,16 +59,6 @@ fn tangent(params: &Params, a: u64, b: u64, log: i128) -> i128
     ensures small { unsigned_abs result ≤ 2 ^ 48 }
 {
     floored(lessened(part(a, log), slope(params, a, b)))
-}
-
-/// The lesser of two numbers.
-fn lesser(a: i128, b: i128) -> i128
-    requires a { unsigned_abs a ≤ 2 ^ 48 }
-    requires b { unsigned_abs b ≤ 2 ^ 48 }
-    ensures value { result ≡ int_min a b }
-    ensures small { unsigned_abs result ≤ 2 ^ 48 }
-{
-    if a <= b { a } else { b }
 }
 
 /// A fraction times a logarithm.

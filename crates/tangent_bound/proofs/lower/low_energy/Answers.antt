@@ -10,9 +10,8 @@ use Rattle.case_types.specs.Divisions.{bits, energy_of}
 use Rattle.log_laws.specs.LogSum.{AtLeast}
 use Rattle.case_types.specs.Numbers.{numbers_of}
 use Rattle.pr_params.specs.Boxes.{box_of}
-use Rattle.pr_params.proofs.Mean.{count_is}
 use Rattle.pr_params.proofs.Signed.{natural_value, difference_read}
-use Rattle.pr_params.proofs.Sized.{sized_one, each_up_to}
+use Rattle.pr_params.proofs.Sized.{count_of, sized_one, each_up_to}
 use Rattle.tangent_bound.proofs.EnergyLow.{energy_at_least}
 use Rattle.pr_params.proofs.ParametersHold.{holds_parameters}
 use Rattle.pr_params.proofs.MeansHold.{holds_means}
@@ -21,14 +20,14 @@ use Rattle.tangent_bound.proofs.lower.low_energy.Goals as goal
 use Rattle.tangent_bound.proofs.lower.low_energy.Goals.{After-pull}
 
 -- the terms before the attraction, as they are added
-lowered_is : (c : After-pull) → c.lowered-energy.result ≡ c.entropy.result +ℤ c.volume.result -ℤ c.log_covolume-log.result -ℤ c.log_rest.result
+lowered_is : (c : After-pull) → c.lowered-energy.result ≡ c.entropy-mixing.result +ℤ c.volume.result -ℤ c.log_covolume-log.result -ℤ c.log_rest.result
 lowered_is c =
-    let m = c.entropy.ensures.small in
+    let m = c.entropy-mixing.ensures.small in
     let v = c.volume.ensures.small in
     let g = c.gained-gain.ensures.small in
     let l = c.log_covolume-log.ensures.small in
     let k = c.log_rest.ensures.small in
-    let gain = rw (back c.entropy.result (omega (arith, m)), back c.volume.result (omega (arith, v))) at c.gained-gain.ensures.value in
+    let gain = rw (back c.entropy-mixing.result (omega (arith, m)), back c.volume.result (omega (arith, v))) at c.gained-gain.ensures.value in
     rw (back c.gained-gain.result (omega (arith, g)), back c.log_covolume-log.result (omega (arith, l)), back c.log_rest.result (omega (arith, k)), gain) at c.lowered-energy.ensures.value
 
 -- what the code computes
@@ -36,7 +35,7 @@ abbrev read : ℤ → ℤ
 read z = to_z w128 (of_z w128 z)
 
 -- the energy is the sum of its terms
-read_is : (c : After-pull) → read (read c.lowered-energy.result -ℤ read c.pull.result) ≡ c.entropy.result +ℤ c.volume.result -ℤ c.log_covolume-log.result -ℤ c.log_rest.result -ℤ c.pull.result
+read_is : (c : After-pull) → read (read c.lowered-energy.result -ℤ read c.pull.result) ≡ c.entropy-mixing.result +ℤ c.volume.result -ℤ c.log_covolume-log.result -ℤ c.log_rest.result -ℤ c.pull.result
 read_is c =
     let e = c.lowered-energy.ensures.small in
     let q = c.pull.ensures.small in
@@ -69,9 +68,9 @@ attraction c =
 value_is : (c : After-pull) → read (read c.lowered-energy.result -ℤ read c.pull.result) ≡ energy_low (numbers_of c.args.params.now.case) (box_of c.args.x.now) c.args.ylo c.args.yhi
 value_is c =
     read_is c
-    ∙ energy_low_is (numbers_of c.args.params.now.case) (box_of c.args.x.now) c.args.ylo c.args.yhi c.entropy.result c.volume.result
-    c.log_covolume-log.result c.log_rest.result c.pull.result (count_is c.args.params.now.case c.requires.one)
-    c.entropy.ensures.value (volume_is c) (logarithm c) c.log_rest.ensures.value (attraction c)
+    ∙ energy_low_is (numbers_of c.args.params.now.case) (box_of c.args.x.now) c.args.ylo c.args.yhi c.args.params.now.case.n c.entropy-mixing.result c.volume.result
+    c.log_covolume-log.result c.log_rest.result c.pull.result (count_of c.args.params.now.case)
+    c.entropy-mixing.ensures.value (volume_is c) (logarithm c) c.log_rest.ensures.value (attraction c)
 
 pub returns-clause-value : goal.returns-clause-value
 returns-clause-value c = value_is (goal.at.returns-clause-value c).After-pull
