@@ -23,7 +23,6 @@ const ONE: u64 = 1 << 40;
 /// The energy at every composition of the box and every packing from `ylo` to `yhi` is at least this, in 2^-40 bit. The
 /// ends may be the same.
 pub fn low_energy(params: &Params, x: &BoxX, ylo: u64, yhi: u64) -> i128
-    requires one { params.now.case.n ≡ 1 }
     requires ordered { ylo ≤ yhi }
     requires inside { yhi ≤ 2 ^ 40 }
     requires room { ylo < 2 ^ 40 }
