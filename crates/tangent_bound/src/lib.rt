@@ -4,6 +4,8 @@
 mod fractions;
 mod lower;
 mod mixes;
+#[cfg(test)]
+mod mixtures;
 mod plain;
 mod planes;
 mod pulls;

@@ -85,7 +85,7 @@ fn lows_of_one_component(rt: HostRuntime) -> Result<(), Fail> {
 const QUARTER: u64 = 1 << 38;
 
 /// The plane of these potentials.
-fn plane_of(lam: [i128; SLOTS]) -> Option<Plane> {
+pub fn plane_of(lam: [i128; SLOTS]) -> Option<Plane> {
     let limit = 1 << 80;
     let first_small = lam[0].unsigned_abs() < limit && lam[1].unsigned_abs() < limit;
     if !first_small || lam[2].unsigned_abs() >= limit || lam[3].unsigned_abs() >= limit {
