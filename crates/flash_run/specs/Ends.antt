@@ -1,5 +1,5 @@
 -- What an end says of its status, of its cause and of the source.
-use Rattle.std.specs.Prelude.{◌≡◌, ⊤, ℕ, ◌+◌, ◌*◌, ◌^◌, ◌<◌, ◌≤◌, ◌⊎◌, List, length, pos, ◌≤ℤ◌, Ok, Err, Some}
+use Rattle.std.specs.Prelude.{◌≡◌, ⊤, ℕ, ◌+◌, ◌*◌, ◌^◌, ◌<◌, ◌≤◌, ◌⊎◌, List, length, pos, ◌≤ℤ◌, Ok, Err, Some, None}
 use Rattle.std.specs.declared.option.Option.{Option}
 use Rattle.case_types.specs.declared.answers.Answer.{Answer}
 use Rattle.case_types.specs.declared.answers.Outcome.{Outcome}
@@ -104,19 +104,19 @@ pub record IsRefusedName (asked : Asked) (bytes : List ℕ) (fault : CaseFault) 
   pub table : table_of (records_of bytes) ≡ Ok held
   pub refused : Refuses held asked fault
 
--- the range that the parameters of one live component break first
+-- the range that the parameters break first
 pub record IsRefusedRange (asked : Asked) (bytes : List ℕ) (fault : CaseFault) : Type 0 where
   pub picked : Picked
   pub case_is : IsCase asked bytes picked
-  pub one : picked.case.n ≡ 1
   pub range : ParamFault
   pub is : fault ≡ Param range
   pub refused : fault_of picked.case ≡ Some range
 
--- more than one component has a part of the feed
+-- no range is broken, and more than one component has a part of the feed
 pub record IsUnbuilt (asked : Asked) (bytes : List ℕ) : Type 0 where
   pub picked : Picked
   pub case_is : IsCase asked bytes picked
+  pub accepted : fault_of picked.case ≡ None
   pub more : 1 < picked.case.n
 
 -- a flash of one live component into one phase: the certified answer, with its list of work, at the tolerance and the budget

@@ -20,7 +20,7 @@ pub enum End {
     Table(TableFault),
     /// The first name without a component, or the range that the parameters break first.
     Case(CaseFault),
-    /// Words, table and names are accepted, and more than one component has a part of the feed: this version can't flash that.
+    /// Words, table and case are accepted, and more than one component has a part of the feed: this version can't flash that.
     Unbuilt,
     /// The numbers of the case, its names, the tolerance and the answer of its flash.
     Flash(Params, Picked, u32, Answer),

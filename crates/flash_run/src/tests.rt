@@ -51,7 +51,7 @@ fn run_in_pieces(
 }
 
 /// Words, a table, the status and the report of their run.
-const REFUSED: [(&str, &str, u8, &str); 30] = [
+const REFUSED: [(&str, &str, u8, &str); 32] = [
     // Words.
     ("", "", 2, "refused words NoCommand\n"),
     ("pt T=300", "", 2, "refused words NoCommand\n"),
@@ -136,6 +136,18 @@ const REFUSED: [(&str, &str, u8, &str); 30] = [
         "comp,a,1500,1000000,0,\ncomp,b,300,1000000,0,\n",
         4,
         "refused case ARange 1 1\n",
+    ),
+    (
+        "tp T=300 P=100000 z=1,1 names=a,b tol=1024 budget=10",
+        "comp,a,300,100000,0,\ncomp,b,5,50000000,0,\n",
+        4,
+        "refused case BRatio\n",
+    ),
+    (
+        "tp T=1500 P=1000000 z=1,1 names=a,b tol=1024 budget=10",
+        "comp,a,300,1000000,0,\ncomp,b,300,1000000,1.5,\n",
+        4,
+        "refused case MRange 2\n",
     ),
     // More than one live component.
     (

@@ -101,13 +101,13 @@ fn judge(alloc: Global, job: &FlashWords, bytes: &[u8]) -> End
         Ok(picked) => picked,
         Err(fault) => return End::Case(fault),
     };
-    if picked.case.n != 1 {
-        return End::Unbuilt;
-    }
     let params = match params(&picked.case) {
         Ok(params) => params,
         Err(fault) => return End::Case(CaseFault::Param(fault)),
     };
+    if picked.case.n != 1 {
+        return End::Unbuilt;
+    }
     match flash_tp(alloc, &params, job.tol, job.budget) {
         Ok(answer) => End::Flash(params, picked, job.tol, answer),
         Err(_) => End::Memory,

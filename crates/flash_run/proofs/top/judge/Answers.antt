@@ -13,6 +13,7 @@ returns-then-picked-ne1 c =
         table = c.in-Ok.ensures.table;
         picks = c.in-Ok-pick.ensures.picked;
       };
+      accepted = rw c.in-Ok-params.ensures.ok at c.in-Ok-params.params.accepted;
       more = omega (arith, c.if-picked-ne1.true, some);
     }
 
@@ -24,7 +25,6 @@ returns-in-Err-params c = inr (record {
     table = c.in-Ok.ensures.table;
     picks = c.in-Ok-pick.ensures.picked;
   };
-  one = omega (arith, c.if-picked-ne1.false);
   range = c.in-Err-params.fault;
   is = refl;
   refused = c.in-Err-params.ensures.err;
