@@ -1,7 +1,7 @@
 -- The smallest box on the grid that holds the composition of given parts.
 use Rattle.std.proofs.Common.{ℕ, zero, suc, ◌*◌, ◌^◌, ◌≤◌, ◌<◌, ◌≡◌, refl, ◌∙◌, arith, cond, nat_lt, nat_le, Bool, true, false, IsTrue, slice_index, List}
 use Rattle.std.proofs.Math.Nat.{div-mul-le_self, le_of_mul-le-mul_right}
-use Rattle.std.proofs.lemmas.Bool.{le-leb}
+use Rattle.std.proofs.lemmas.Bool.{le-leb, ltb-true}
 use Rattle.log_laws.specs.Sums.{sum_below, list_below}
 use Rattle.log_laws.proofs.Exports.{le-sum_below, sum_below-scaled}
 use Rattle.case_types.specs.declared.phases.Phase.{Phase}
@@ -74,9 +74,6 @@ pub record IsBox (x : Box) : Type 0 where
   pub not_above : sum_below 4 (slice_index x.lo) ≤ one
   pub not_below : one ≤ sum_below 4 (slice_index x.hi)
 
-below_of : (i n : ℕ) → nat_lt i n ≡ true → i < n
-below_of i n h = grind (arith, h)
-
 pub parts_box : (n : ℕ) (parts : List ℕ) → n ≤ 4 → 0 < sum_below n (slice_index parts) → IsBox (box_of_parts n parts)
 parts_box n parts few some =
     record {
@@ -106,7 +103,7 @@ parts_box n parts few some =
     inside : (i : ℕ) → i < 4 → slice_index box.hi i ≤ one
     inside i l =
         rw (get_or-list_below 4 (live n ceiling) 0 i l)
-        (live_up_to (nat_lt i n) (ceiling i) one (λ t. share_top n parts some i (below_of i n t)))
+        (live_up_to (nat_lt i n) (ceiling i) one (λ t. share_top n parts some i (ltb-true i n t)))
 
     floors : sum_below n floor * m ≤ m * one
     floors = sum_below-scaled n floor (slice_index parts) m one (λ i l. div-mul-le_self (slice_index parts i * one) m)

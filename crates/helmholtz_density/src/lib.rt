@@ -6,6 +6,8 @@ mod mixes;
 mod pulls;
 mod pushes;
 mod splits;
+#[cfg(test)]
+mod tests;
 mod upper;
 
 pub use compositions::phase_box;
