@@ -10,15 +10,16 @@ ghost use Rattle.pr_params.specs.Boxes.{box_of};
 use case_types::{BoxX, Case, Phase};
 use fix_interval::ratio_ends;
 
-/// The smallest box on the grid of 2^-40 that holds the composition of the phase. Components that aren't live have the
-/// fraction 0.
+/// The smallest box on the grid of 2^-40 that holds the composition of the phase.
+///
+/// Components that aren't live have the fraction 0. Parts below 2^104 add up to what it asks for.
 pub fn phase_box(case: &Case, phase: &Phase) -> BoxX
     requires some { 1 ≤ sum_below case.now.n (slice_index phase.now.parts) }
     requires small { sum_below case.now.n (slice_index phase.now.parts) < 2 ^ 106 }
     ensures value { box_of result ≡ box_of_parts case.now.n phase.now.parts }
     ensures holds { IsInBox case.now.n (box_of result) (state_of phase.now) }
 {
-    let sum = all_parts(case.n, phase);
+    let sum = moles(case.n, phase);
     let first = fraction_ends(case.n, phase, sum, 0);
     let second = fraction_ends(case.n, phase, sum, 1);
     let third = fraction_ends(case.n, phase, sum, 2);
@@ -57,8 +58,8 @@ fn grid_ends(part: u128, sum: u128) -> (u64, u64)
     (floor as u64, ceiling as u64)
 }
 
-/// How many parts the first `n` components have together.
-pub fn all_parts(n: u8, phase: &Phase) -> u128
+/// How many parts the first `n` components of the phase have together.
+pub fn moles(n: u8, phase: &Phase) -> u128
     requires four { n ≤ 4 }
     requires small { sum_below n (slice_index phase.now.parts) < 2 ^ 106 }
     ensures { result ≡ sum_below n (slice_index phase.now.parts) }

@@ -9,7 +9,7 @@ ghost use Rattle.case_types.specs.Divisions.{Divides, division_of, energy_of_div
 ghost use Rattle.case_types.specs.Instances.{Instance, IsInstance};
 ghost use Rattle.case_types.specs.Numbers.{numbers_of, enclosures_of};
 
-use crate::compositions::{all_parts, phase_box};
+use crate::compositions::{moles, phase_box};
 use crate::upper::energy_up;
 use case_types::{Phase, Split};
 use fix_interval::ratio_ends;
@@ -44,7 +44,7 @@ fn weighed_energy(params: &Params, sum: u128, phase: &Phase) -> i128
     ensures small { unsigned_abs result ≤ 2 ^ 107 }
 {
     let up = energy_up(params, &phase_box(&params.case, phase), phase.packing);
-    let parts = all_parts(params.case.n, phase);
+    let parts = moles(params.case.n, phase);
     let (least, greatest) = ratio_ends(parts, sum, 60);
     shared(if up >= 0 { greatest } else { least }, up)
 }

@@ -27,7 +27,7 @@ made_is c =
       c.fraction_ends-second.ensures.hi,
       c.fraction_ends-third.ensures.hi,
       c.fraction_ends-fourth.ensures.hi,
-      c.all_parts-sum.ensures,
+      c.moles-sum.ensures,
     ) refl
 
 pub returns-clause-value : goal.returns-clause-value

@@ -41,7 +41,7 @@ returns-clause-value c =
     rw (r, ← up)
     (elim c.if-up-ge0.branch [
       | then-up-ge0 w ↦ above m c.args.sum c.if-up-ge0.shared c.ratio_ends-least.result.1 c.energy_up-up.result c.shared.result some
-          (rw u at w.if-up-ge0.true) w.shared-is (rw c.all_parts-parts.ensures at c.ratio_ends-least.ensures.hi) is
+          (rw u at w.if-up-ge0.true) w.shared-is (rw c.moles-parts.ensures at c.ratio_ends-least.ensures.hi) is
       | else-up-ge0 w ↦ below m c.args.sum c.if-up-ge0.shared c.ratio_ends-least.result.0 c.energy_up-up.result c.shared.result some
-          (rw u at w.if-up-ge0.false) w.shared-is (rw c.all_parts-parts.ensures at c.ratio_ends-least.ensures.lo) is
+          (rw u at w.if-up-ge0.false) w.shared-is (rw c.moles-parts.ensures at c.ratio_ends-least.ensures.lo) is
     ])

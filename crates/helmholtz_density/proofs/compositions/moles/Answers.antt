@@ -1,6 +1,6 @@
 use Rattle.std.proofs.Common.{◌+◌, slice_index, arith}
 use Rattle.helmholtz_density.proofs.Adding.{sum_more, sum_of_fewer}
-use Rattle.helmholtz_density.proofs.compositions.all_parts.Goals as goal
+use Rattle.helmholtz_density.proofs.compositions.moles.Goals as goal
 
 pub overflow_add-sum : goal.overflow_add-sum
 overflow_add-sum c =
