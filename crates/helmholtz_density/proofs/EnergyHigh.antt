@@ -161,7 +161,7 @@ energy_at_most c p x box f Y sized ratio_low_positive some within holds means in
     let y = f.packing in
     let v = covolume_range p box in
     let back = sym is in
-    let pb = covolume_positive v (2 ^ (56 + p.lift)) b sized.covolume_low means.covolume in
+    let pb = covolume_positive v (2 ^ (56 + p.lift)) b (omega (arith, ints, sized.covolume_low)) means.covolume in
     let ordered = ends_ordered v (2 ^ (56 + p.lift)) b means.covolume in
     let low : pos (2 ^ 49) ≤ℤ v.lo = omega (arith, ints, sized.covolume_low) in
     let hi : pos 0 ≤ℤ v.hi = omega (arith, ints, low, ordered) in

@@ -12,7 +12,7 @@ use fix_interval::ratio_ends;
 
 /// The smallest box on the grid of 2^-40 that holds the composition of the phase.
 ///
-/// Components that aren't live have the fraction 0. Parts below 2^104 add up to what it asks for.
+/// Components that aren't live have the fraction 0. Four parts below 2^104 add up to less than 2^106, as it asks.
 pub fn phase_box(case: &Case, phase: &Phase) -> BoxX
     requires some { 1 ≤ sum_below case.now.n (slice_index phase.now.parts) }
     requires small { sum_below case.now.n (slice_index phase.now.parts) < 2 ^ 106 }
