@@ -5,7 +5,7 @@ use Rattle.log_laws.specs.Squaring.{log_up, log_down}
 use Rattle.log_laws.specs.Whole.{floor_div, ceil_div}
 use Rattle.case_types.specs.Bounds.{Box, one, mixing_up, covolume_scale, covolume_range, ratio_low, lambda_down, energy_up}
 use Rattle.case_types.specs.Numbers.{Numbers}
-use Rattle.pr_params.proofs.One.{sum_at_one}
+use Rattle.log_laws.specs.Sums.{int_sum_below}
 
 -- the volume term
 abbrev pub volume_part : Numbers → Box → ℕ → ℤ
@@ -16,13 +16,12 @@ abbrev pub attraction_part : Numbers → Box → ℕ → ℤ
 attraction_part p x y = floor_div (ratio_low p x *ℤ lambda_down p y *ℤ pos (2 ^ 19)) p.root_two.hi
 
 -- the upper energy from its terms
-pub energy_up_is : (p : Numbers) (x : Box) (y : ℕ) (m u v l k q : ℤ) → p.count ≡ 1 →
-    m ≡ mixing_up (slice_index x.lo 0) (slice_index x.hi 0) → u ≡ log_up y 40 → v ≡ volume_part p x y →
+pub energy_up_is : (p : Numbers) (x : Box) (y n : ℕ) (m u v l k q : ℤ) → p.count ≡ n →
+    m ≡ int_sum_below n (λ i. mixing_up (slice_index x.lo i) (slice_index x.hi i)) → u ≡ log_up y 40 → v ≡ volume_part p x y →
     l ≡ log_down (unsigned_abs (covolume_range p x).lo) (56 + p.lift) → k ≡ log_down (one - y) 40 → q ≡ attraction_part p x y →
     m +ℤ u +ℤ v -ℤ l -ℤ k -ℤ q ≡ energy_up p x y
 unfolding energy_up
-energy_up_is p x y m u v l k q h em eu ev el ek eq =
-    rw (em, eu, ev, el, ek, eq, sum_at_one p.count (λ i. mixing_up (slice_index x.lo i) (slice_index x.hi i)) h) refl
+energy_up_is p x y n m u v l k q h em eu ev el ek eq = rw (em, eu, ev, el, ek, eq, h) refl
 
 -- the size of a sum of two
 abs_add : (a b : ℤ) → unsigned_abs (a +ℤ b) ≤ unsigned_abs a + unsigned_abs b

@@ -80,13 +80,13 @@ minus_most a l x = (at_most_is_opposite (minus_log_of a) (bits (neg_ℤ l))).1 (
     twice : (z : ℤ) → z ≡ neg_ℤ (neg_ℤ z)
     twice z = omega (arith, ints)
 
-covolume_most : (b : Fraction) (s : ℕ) (v : Ends) → IsPositive b → pos (2 ^ 60) ≤ℤ v.lo → v.lo ≤ℤ pos (2 ^ 61) → IsBetween v (2 ^ s) b →
+covolume_most : (b : Fraction) (s : ℕ) (v : Ends) → IsPositive b → pos (2 ^ 49) ≤ℤ v.lo → v.lo ≤ℤ pos (2 ^ 61) → IsBetween v (2 ^ s) b →
     AtMost (minus_log_of b) (bits (neg_ℤ (log_down (unsigned_abs v.lo) s)))
 covolume_most b s v pb low high hold =
-    by_natural (λ z. pos (2 ^ 60) ≤ℤ z → z ≤ℤ pos (2 ^ 61) → IsBetween (record { lo = z; hi = v.hi }) (2 ^ s) b → AtMost (minus_log_of b) (bits (neg_ℤ (log_down (unsigned_abs z) s))))
+    by_natural (λ z. pos (2 ^ 49) ≤ℤ z → z ≤ℤ pos (2 ^ 61) → IsBetween (record { lo = z; hi = v.hi }) (2 ^ s) b → AtMost (minus_log_of b) (bits (neg_ℤ (log_down (unsigned_abs z) s))))
     v.lo (omega (arith, ints, low))
     (λ l low high hold.
-    let ql = le_out (pos (2 ^ 60)) (pos l) low in
+    let ql = le_out (pos (2 ^ 49)) (pos l) low in
     let qh = le_out (pos l) (pos (2 ^ 61)) high in
     minus_most b (log_down l s)
     (at_least_takes_larger one (ratio l (2 ^ s)) b (constant (whole (pos 0))) (bits (log_down l s)) (at_most_in (pos 0) (pos 1) (omega arith)) pb hold.above
@@ -161,9 +161,10 @@ energy_at_most c p x box f Y sized ratio_low_positive some within holds means in
     let y = f.packing in
     let v = covolume_range p box in
     let back = sym is in
-    let pb = covolume_positive v (2 ^ (56 + p.lift)) b sized.covolume_low means.covolume in
+    let pb = covolume_positive v (2 ^ (56 + p.lift)) b (omega (arith, ints, sized.covolume_low)) means.covolume in
     let ordered = ends_ordered v (2 ^ (56 + p.lift)) b means.covolume in
-    let hi : pos 0 ≤ℤ v.hi = omega (arith, ints, sized.covolume_low, ordered) in
+    let low : pos (2 ^ 49) ≤ℤ v.lo = omega (arith, ints, sized.covolume_low) in
+    let hi : pos 0 ≤ℤ v.hi = omega (arith, ints, low, ordered) in
     let lo : v.lo ≤ℤ pos (2 ^ 61) = omega (arith, ints, sized.covolume_high, ordered) in
     let z1 = int_sum_below c.n (λ i. mixing_up (slice_index box.lo i) (slice_index box.hi i)) in
     let z2 = log_up Y 40 +ℤ ceil_div (p.log_e.hi *ℤ v.hi) (pos Y *ℤ pos (covolume_scale p)) in
@@ -177,7 +178,7 @@ energy_at_most c p x box f Y sized ratio_low_positive some within holds means in
     let s5 = attraction_part x.root_two a b y in
     let x1 = mixing_most c.n box f state inside sized.fractions in
     let x2 = subst (λ (y : Fraction). AtMost (volume_part x.log_e b y) (bits z2)) back (volume_most p x.log_e b Y v sized.log_e some within hi pb holds.log_e means.covolume) in
-    let x3 = covolume_most b (56 + p.lift) v pb sized.covolume_low lo means.covolume in
+    let x3 = covolume_most b (56 + p.lift) v pb low lo means.covolume in
     let x4 = subst (λ (y : Fraction). AtMost (minus_log_of (difference (whole (pos 1)) y)) (bits z4)) back (rest_most Y within) in
     let x5 = subst (λ (y : Fraction). AtMost (attraction_part x.root_two a b y) (bits z5)) back
     (pull_piece p x.root_two a b (ratio Y (2 ^ 40)) (ratio_low p box) Y sized.root_two holds.root_two pb (mean_attraction_is_fraction c p x f holds state) (grid_packing Y some within)

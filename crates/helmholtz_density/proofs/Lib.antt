@@ -1,7 +1,9 @@
-pub mod Mixes
+pub mod Adding
+pub mod Terms
 pub mod Energy
 pub mod MixingHigh
 pub mod EnergyHigh
+pub mod BoxOfParts
 pub mod Shares
 pub mod Weighed
 pub mod Parts

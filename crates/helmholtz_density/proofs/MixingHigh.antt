@@ -16,7 +16,7 @@ use Rattle.case_types.specs.Divisions.{State, moles, bits, mixing_of, mixing, mi
 use Rattle.case_types.specs.Holding.{IsInBox}
 use Rattle.log_laws.specs.Sums.{int_sum_below, log_sum_below}
 use Rattle.pr_params.proofs.Pull.{times_scaled, times_minus_one}
-use Rattle.helmholtz_density.proofs.Mixes.{mixing_none, mixing_some}
+use Rattle.helmholtz_density.proofs.Terms.{mixing_none, mixing_some}
 
 -- ---- the logarithm of a fraction isn't positive
 none_at_one : log_up (2 ^ 40) 40 ≡ pos 0

@@ -1,28 +1,11 @@
--- A share of an energy, and the box of a phase of one component, as the code computes them.
-use Rattle.std.proofs.Common.{ℕ, suc, ◌+◌, ◌-◌, ◌*◌, ◌/◌, ◌^◌, ◌<◌, ◌≤◌, ◌≡◌, refl, List, [], ◌∷◌, ℤ, pos, negsuc, neg_ℤ, ◌+ℤ◌, ◌*ℤ◌, ◌≤ℤ◌, ◌<ℤ◌, slice_index, arith, lit<}
+-- A share of an energy as the code computes it.
+use Rattle.std.proofs.Common.{ℕ, suc, ◌+◌, ◌-◌, ◌*◌, ◌^◌, ◌<◌, ◌≤◌, ◌≡◌, ℤ, pos, negsuc, neg_ℤ, ◌+ℤ◌, ◌*ℤ◌, ◌≤ℤ◌, ◌<ℤ◌, arith, lit<}
 use Rattle.std.proofs.lemmas.Int.{ints, clamps}
-use Rattle.std.proofs.Math.Nat.{mul-le-mul_right, mul-div_cancel_left, div-mul-le_self, lt-div-mul-add}
-use Rattle.std.proofs.lemmas.Nat.{div-mul-add}
+use Rattle.std.proofs.Math.Nat.{mul-le-mul_right, div-mul-le_self, lt-div-mul-add}
 use Rattle.std.specs.Int.{int_max}
 use borrow.Author.Differences.{product_is}
-use Rattle.log_laws.specs.Sums.{sum_below, list_below}
 use Rattle.log_laws.specs.Whole.{ceil_quotient, ceil_over, floor_over}
 use Rattle.log_laws.proofs.Exports.{lt-floor_over, floor_over-le, mul-add_ℤ, add-mul_ℤ, mul_assoc_ℤ}
-use Rattle.case_types.specs.Bounds.{Box, one, box_of_parts}
-
--- ---- the box of one component is that of its pure composition
-whole_share : (k : ℕ) → 1 ≤ k → k * one / (0 + k) ≡ one
-whole_share k h = let e : 0 + k ≡ k = omega arith in rw e (mul-div_cancel_left one h)
-
-whole_ceiling : (k : ℕ) → 1 ≤ k → ceil_quotient (k * one) (0 + k) ≡ one
-whole_ceiling k h = let e : 0 + k ≡ k = omega arith in let f : k * one + (k - 1) ≡ one * k + (k - 1) = omega arith in rw (e, f) (div-mul-add one k (k - 1) (omega arith))
-
-pub one_box : (n : ℕ) (parts : List ℕ) → n ≡ 1 → 1 ≤ sum_below n (slice_index parts) →
-    (let ends : List ℕ = 2 ^ 40 ∷ 0 ∷ 0 ∷ 0 ∷ [] in let b : Box = record { lo = ends; hi = ends } in b) ≡ box_of_parts n parts
-unfolding list_below
-one_box n parts e h =
-    rw e (let some : 1 ≤ slice_index parts 0 = (let l = rw e at h in omega (arith, l)) in
-    rw (whole_share (slice_index parts 0) some, whole_ceiling (slice_index parts 0) some) refl)
 
 -- ---- the greater of two shares of an energy
 pub share_above_zero : (v V : ℕ) (u : ℤ) → v ≤ V → pos 0 ≤ℤ u → int_max (pos v *ℤ u) (pos V *ℤ u) ≡ pos V *ℤ u

@@ -1,10 +1,15 @@
 //! Upper bounds of the reduced energy: Helmholtz energy plus pressure times volume, over RT ln 2, per mole.
 #![tactic(auto)]
 
+mod compositions;
+mod mixes;
 mod pulls;
 mod pushes;
 mod splits;
+#[cfg(test)]
+mod tests;
 mod upper;
 
-pub use splits::{phase_box, split_energy};
+pub use compositions::phase_box;
+pub use splits::split_energy;
 pub use upper::energy_up;

@@ -4,31 +4,16 @@ ghost use Rattle.std.specs.Prelude.{◌≡◌, ◌≤◌, ◌<◌, ◌^◌, ◌*
 ghost use Rattle.log_laws.specs.LogSum.{AtMost};
 ghost use Rattle.log_laws.specs.Whole.{ceil_div, floor_div, ceil_quotient};
 ghost use Rattle.log_laws.specs.Sums.{sum_below};
-ghost use Rattle.case_types.specs.Bounds.{box_of_parts, phase_up, share_of_energy, split_up};
-ghost use Rattle.case_types.specs.Divisions.{Divides, division_of, energy_of_division, bits, state_of};
-ghost use Rattle.case_types.specs.Holding.{IsInBox};
+ghost use Rattle.case_types.specs.Bounds.{phase_up, share_of_energy, split_up};
+ghost use Rattle.case_types.specs.Divisions.{Divides, division_of, energy_of_division, bits};
 ghost use Rattle.case_types.specs.Instances.{Instance, IsInstance};
 ghost use Rattle.case_types.specs.Numbers.{numbers_of, enclosures_of};
-ghost use Rattle.pr_params.specs.Boxes.{box_of};
 
+use crate::compositions::{moles, phase_box};
 use crate::upper::energy_up;
-use case_types::{BoxX, Case, Phase, Split};
+use case_types::{Phase, Split};
 use fix_interval::ratio_ends;
 use pr_params::Params;
-
-/// 1 in 2^-40.
-const ONE: u64 = 1 << 40;
-
-/// The smallest box on the grid of 2^-40 that holds the composition of the phase.
-pub fn phase_box(case: &Case, phase: &Phase) -> BoxX
-    requires one { case.now.n ≡ 1 }
-    requires some { 1 ≤ sum_below case.now.n (slice_index phase.now.parts) }
-    ensures value { box_of result ≡ box_of_parts case.now.n phase.now.parts }
-    ensures holds { IsInBox case.now.n (box_of result) (state_of phase.now) }
-{
-    let ends = [ONE, 0, 0, 0];
-    BoxX { a: ends, b: ends }
-}
 
 /// The energy of the split is at most this, in 2^-40 bit for a mole of feed.
 pub fn split_energy(params: &Params, split: &Split) -> i128
@@ -49,16 +34,18 @@ pub fn split_energy(params: &Params, split: &Split) -> i128
 /// The energy of a phase by its share of the sum, at most.
 fn weighed_energy(params: &Params, sum: u128, phase: &Phase) -> i128
     requires one { params.now.case.n ≡ 1 }
-    requires some { 1 ≤ slice_index phase.now.parts 0 }
-    requires inside { slice_index phase.now.parts 0 ≤ sum }
+    requires some { 1 ≤ sum_below params.now.case.n (slice_index phase.now.parts) }
+    requires inside { sum_below params.now.case.n (slice_index phase.now.parts) ≤ sum }
     requires sum { sum < 2 ^ 104 }
     requires packed { 1 ≤ phase.now.packing }
     requires not_full { phase.now.packing < 2 ^ 40 }
-    ensures value { result ≡ share_of_energy (slice_index phase.now.parts 0) sum (phase_up (numbers_of params.now.case) phase.now) }
+    ensures value { result ≡ share_of_energy (sum_below params.now.case.n (slice_index phase.now.parts)) sum
+        (phase_up (numbers_of params.now.case) phase.now) }
     ensures small { unsigned_abs result ≤ 2 ^ 107 }
 {
     let up = energy_up(params, &phase_box(&params.case, phase), phase.packing);
-    let (least, greatest) = ratio_ends(phase.parts[0], sum, 60);
+    let parts = moles(params.case.n, phase);
+    let (least, greatest) = ratio_ends(parts, sum, 60);
     shared(if up >= 0 { greatest } else { least }, up)
 }
 

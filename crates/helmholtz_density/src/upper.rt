@@ -1,16 +1,16 @@
 //! The energy at one packing, at most.
 
-ghost use Rattle.std.specs.Prelude.{◌≡◌, ◌≤◌, ◌<◌, ◌^◌, ◌+◌, ◌-◌, ◌*◌, pos, ◌+ℤ◌, ◌-ℤ◌, ◌*ℤ◌, unsigned_abs, slice_index};
+ghost use Rattle.std.specs.Prelude.{◌≡◌, ◌≤◌, ◌<◌, ◌^◌, ◌+◌, ◌-◌, ◌*◌, pos, ◌+ℤ◌, ◌-ℤ◌, ◌*ℤ◌, unsigned_abs};
 ghost use Rattle.log_laws.specs.LogSum.{AtMost, ratio};
-ghost use Rattle.log_laws.specs.Whole.{ceil_div};
 ghost use Rattle.log_laws.specs.Squaring.{log_up, log_down};
 ghost use Rattle.case_types.specs.Numbers.{numbers_of, enclosures_of};
-ghost use Rattle.case_types.specs.Bounds.{energy_up as upper_energy, mixing_up};
+ghost use Rattle.case_types.specs.Bounds.{energy_up as upper_energy};
 ghost use Rattle.case_types.specs.Divisions.{State, moles, bits, energy_of};
 ghost use Rattle.case_types.specs.Holding.{IsInBox};
 ghost use Rattle.case_types.specs.Instances.{Instance, IsInstance};
 ghost use Rattle.pr_params.specs.Boxes.{box_of};
 
+use crate::mixes::entropy;
 use crate::pulls::pull;
 use crate::pushes::push;
 use case_types::BoxX;
@@ -39,7 +39,7 @@ pub fn energy_up(params: &Params, x: &BoxX, y: u64) -> i128
     let ratio = g_lo(params, x);
     let push = push(params, b.hi as u128, y) as i128;
     let log = log_covolume(params, b.lo as u128);
-    let gain = gains(entropy(x), log_packing(y), push);
+    let gain = gains(entropy(params.case.n, x), log_packing(y), push);
     let energy = lowered(gain, log, log_rest(y));
     energy - pull(params, ratio, y)
 }
@@ -58,7 +58,7 @@ fn gains(mixing: i128, log_y: i128, push: i128) -> i128
 /// The terms of the energy that are added less the logarithms that are taken off.
 fn lowered(gain: i128, log_b: i128, log_rest: i128) -> i128
     requires gain { unsigned_abs gain ≤ 2 ^ 87 }
-    requires log_b { unsigned_abs log_b ≤ 2 ^ 45 }
+    requires log_b { unsigned_abs log_b ≤ 2 ^ 46 }
     requires log_rest { unsigned_abs log_rest ≤ 2 ^ 47 }
     ensures value { result ≡ gain -ℤ log_b -ℤ log_rest }
     ensures small { unsigned_abs result ≤ 2 ^ 88 }
@@ -89,50 +89,10 @@ fn log_rest(y: u64) -> i128
 
 /// The logarithm of a co-volume, at least.
 fn log_covolume(params: &Params, b: u128) -> i128
-    requires low { 2 ^ 60 ≤ b }
+    requires low { 2 ^ 49 ≤ b }
     requires high { b ≤ 2 ^ 61 }
     ensures value { result ≡ log_down b (56 + (numbers_of params.now.case).lift) }
-    ensures small { unsigned_abs result ≤ 2 ^ 45 }
+    ensures small { unsigned_abs result ≤ 2 ^ 46 }
 {
     log2_lo(b, 56 + params.raised_by())
-}
-
-/// The mixing term of the first component, at most.
-fn entropy(x: &BoxX) -> i128
-    ensures value { result ≡ mixing_up (slice_index x.now.a 0) (slice_index x.now.b 0) }
-    ensures small { unsigned_abs result ≤ 2 ^ 46 }
-{
-    mixing(x.a[0], x.b[0])
-}
-
-/// The mixing term `x log2 x` of a fraction from `a` to `b` in 2^-40, at most.
-fn mixing(a: u64, b: u64) -> i128
-    requires ordered { a ≤ b }
-    requires inside { b ≤ 2 ^ 40 }
-    ensures value { result ≡ mixing_up a b }
-    ensures small { unsigned_abs result ≤ 2 ^ 46 }
-{
-    if b == 0 {
-        return 0;
-    }
-    ceiling(part(a, log2_hi(b as u128, 40)))
-}
-
-/// A fraction times a logarithm.
-fn part(a: u64, log: i128) -> i128
-    requires a { a ≤ 2 ^ 40 }
-    requires log { unsigned_abs log ≤ 2 ^ 46 }
-    ensures value { result ≡ pos a *ℤ log }
-    ensures small { unsigned_abs result ≤ 2 ^ 86 }
-{
-    a as i128 * log
-}
-
-/// A number in 2^-40, rounded up.
-fn ceiling(z: i128) -> i128
-    requires { unsigned_abs z ≤ 2 ^ 86 }
-    ensures value { result ≡ ceil_div z (pos (2 ^ 40)) }
-    ensures small { unsigned_abs result ≤ 2 ^ 46 }
-{
-    -((-z) >> 40)
 }

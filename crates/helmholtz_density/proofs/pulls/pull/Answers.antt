@@ -3,7 +3,7 @@ use Rattle.std.proofs.lemmas.Int.{ints}
 use Rattle.log_laws.proofs.Exports.{back}
 use Rattle.case_types.specs.Bounds.{lambda_down}
 use Rattle.case_types.specs.Numbers.{numbers_of}
-use Rattle.helmholtz_density.proofs.Mixes.{pull_is}
+use Rattle.helmholtz_density.proofs.Terms.{pull_is}
 use Rattle.helmholtz_density.proofs.pulls.pull.Goals as goal
 
 pub returns-clause-value : goal.returns-clause-value

@@ -1,6 +1,6 @@
 use Rattle.std.proofs.Common.{refl, arith, ◌*◌, ◌<◌}
 use Rattle.case_types.specs.Numbers.{numbers_of}
-use Rattle.helmholtz_density.proofs.Mixes.{quotient_is}
+use Rattle.helmholtz_density.proofs.Terms.{quotient_is}
 use Rattle.helmholtz_density.proofs.pushes.push.Goals as goal
 
 pub returns-clause-value : goal.returns-clause-value

@@ -2,7 +2,7 @@ use Rattle.std.proofs.Common.{ℕ, ◌≡◌, ◌<◌, ◌≤◌, ◌+◌, ◌*�
 use Rattle.std.proofs.lemmas.Int.{ints}
 use mir.Syntax.{w128}
 use Rattle.case_types.specs.Numbers.{numbers_of}
-use Rattle.pr_params.proofs.Mean.{count_is}
+use Rattle.pr_params.proofs.Sized.{count_of}
 use Rattle.helmholtz_density.proofs.Parts.{phase_of, sum_step, sum_end}
 use Rattle.log_laws.specs.LogSum.{AtMost}
 use Rattle.case_types.specs.Bounds.{split_up}
@@ -15,25 +15,25 @@ pub weighed_energy-energy-requires-clause-some : goal.weighed_energy-energy-requ
 weighed_energy-energy-requires-clause-some c =
     let e = c.deref-phase-items.ensures.0 in
     let l = rw e at c.loop-phase-test.true in
-    rw e (phase_of c.args.params.now.case c.args.split.now c.loop-phase.phase-index (record { parts = []; packing = 0 }) c.requires.one c.requires.divides l).some
+    rw e (phase_of c.args.params.now.case c.args.split.now c.loop-phase.phase-index (record { parts = []; packing = 0 }) c.requires.divides l).some
 
 pub weighed_energy-energy-requires-clause-inside : goal.weighed_energy-energy-requires-clause-inside
 weighed_energy-energy-requires-clause-inside c =
     let e = c.deref-phase-items.ensures.0 in
     let l = rw e at c.loop-phase-test.true in
-    rw e (phase_of c.args.params.now.case c.args.split.now c.loop-phase.phase-index (record { parts = []; packing = 0 }) c.requires.one c.requires.divides l).inside
+    rw e (phase_of c.args.params.now.case c.args.split.now c.loop-phase.phase-index (record { parts = []; packing = 0 }) c.requires.divides l).inside
 
 pub weighed_energy-energy-requires-clause-packed : goal.weighed_energy-energy-requires-clause-packed
 weighed_energy-energy-requires-clause-packed c =
     let e = c.deref-phase-items.ensures.0 in
     let l = rw e at c.loop-phase-test.true in
-    rw e (phase_of c.args.params.now.case c.args.split.now c.loop-phase.phase-index (record { parts = []; packing = 0 }) c.requires.one c.requires.divides l).packed
+    rw e (phase_of c.args.params.now.case c.args.split.now c.loop-phase.phase-index (record { parts = []; packing = 0 }) c.requires.divides l).packed
 
 pub weighed_energy-energy-requires-clause-not_full : goal.weighed_energy-energy-requires-clause-not_full
 weighed_energy-energy-requires-clause-not_full c =
     let e = c.deref-phase-items.ensures.0 in
     let l = rw e at c.loop-phase-test.true in
-    rw e (phase_of c.args.params.now.case c.args.split.now c.loop-phase.phase-index (record { parts = []; packing = 0 }) c.requires.one c.requires.divides l).not_full
+    rw e (phase_of c.args.params.now.case c.args.split.now c.loop-phase.phase-index (record { parts = []; packing = 0 }) c.requires.divides l).not_full
 
 -- a sum of no more than four shares fits
 fits : (z s : ℤ) (k : ℕ) → k < 4 → unsigned_abs z ≤ k * 2 ^ 107 → unsigned_abs s ≤ 2 ^ 107 →
@@ -49,9 +49,9 @@ loop-phase-preserved c =
     let f = fits (to_z w128 c.loop-phase.energy-bits) c.weighed_energy-energy.result c.loop-phase.phase-index few k.small c.weighed_energy-energy.ensures.small in
     let v = rw e at c.weighed_energy-energy.ensures.value in
     rw f.0 (record {
-      whole = sum_step (numbers_of c.args.params.now.case) c.args.split.now.sum c.args.split.now.phases.items c.loop-phase.phase-index
+      whole = sum_step (numbers_of c.args.params.now.case) c.args.split.now.sum c.args.params.now.case.n c.args.split.now.phases.items c.loop-phase.phase-index
           (record { parts = []; packing = 0 }) (to_z w128 c.loop-phase.energy-bits) c.weighed_energy-energy.result
-          (count_is c.args.params.now.case c.requires.one) l k.whole v;
+          (count_of c.args.params.now.case) l k.whole v;
       small = f.1;
     })
 

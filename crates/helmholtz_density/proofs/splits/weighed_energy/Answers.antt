@@ -2,6 +2,7 @@ use Rattle.std.proofs.Common.{ℕ, ◌≡◌, ◌<◌, ◌*◌, ◌/◌, ◌^◌
 use Rattle.std.proofs.lemmas.Int.{ints}
 use Rattle.std.specs.Prelude.{int_le}
 use mir.Syntax.{w128}
+use Rattle.log_laws.specs.Sums.{sum_below}
 use Rattle.log_laws.specs.Whole.{ceil_quotient, ceil_div}
 use Rattle.case_types.specs.declared.cases.Case.{Case}
 use Rattle.case_types.specs.declared.phases.Phase.{Phase}
@@ -33,14 +34,14 @@ returns-clause-value c =
     let r : to_z w128 (of_z w128 c.shared.result) ≡ c.shared.result = search rules in
     let u : to_z w128 (of_z w128 c.energy_up-up.result) ≡ c.energy_up-up.result = search rules in
     let is = rw u at c.shared.ensures.value in
-    let m = slice_index c.args.phase.now.parts 0 in
+    let m = sum_below c.args.params.now.case.n (slice_index c.args.phase.now.parts) in
     let some : 0 < c.args.sum = omega (arith, c.requires.some, c.requires.inside) in
     let up : c.energy_up-up.result ≡ phase_up (numbers_of c.args.params.now.case) c.args.phase.now =
     phase_up_is c.args.params.now.case c.args.phase.now (box_of c.phase_box.result) c.energy_up-up.result c.phase_box.ensures.value c.energy_up-up.ensures.value in
     rw (r, ← up)
     (elim c.if-up-ge0.branch [
       | then-up-ge0 w ↦ above m c.args.sum c.if-up-ge0.shared c.ratio_ends-least.result.1 c.energy_up-up.result c.shared.result some
-          (rw u at w.if-up-ge0.true) w.shared-is c.ratio_ends-least.ensures.hi is
+          (rw u at w.if-up-ge0.true) w.shared-is (rw c.moles-parts.ensures at c.ratio_ends-least.ensures.hi) is
       | else-up-ge0 w ↦ below m c.args.sum c.if-up-ge0.shared c.ratio_ends-least.result.0 c.energy_up-up.result c.shared.result some
-          (rw u at w.if-up-ge0.false) w.shared-is c.ratio_ends-least.ensures.lo is
+          (rw u at w.if-up-ge0.false) w.shared-is (rw c.moles-parts.ensures at c.ratio_ends-least.ensures.lo) is
     ])

@@ -10,14 +10,13 @@ use Rattle.case_types.specs.Divisions.{bits, energy_of}
 use Rattle.log_laws.specs.LogSum.{AtMost}
 use Rattle.case_types.specs.Numbers.{numbers_of}
 use Rattle.pr_params.specs.Boxes.{box_of}
-use Rattle.pr_params.proofs.Mean.{count_is}
 use Rattle.pr_params.proofs.Signed.{natural_value, difference_read}
-use Rattle.pr_params.proofs.Sized.{sized_one, each_up_to}
+use Rattle.pr_params.proofs.Sized.{count_of, sized_one, each_up_to}
 use Rattle.helmholtz_density.proofs.EnergyHigh.{energy_at_most}
 use Rattle.pr_params.proofs.ParametersHold.{holds_parameters}
 use Rattle.pr_params.proofs.MeansHold.{holds_means}
 use Rattle.helmholtz_density.proofs.Energy.{volume_part, attraction_part, energy_up_is, sum_size}
-use Rattle.helmholtz_density.proofs.Mixes.{volume_is}
+use Rattle.helmholtz_density.proofs.Terms.{volume_is}
 use Rattle.helmholtz_density.proofs.upper.energy_up.Goals as goal
 use Rattle.helmholtz_density.proofs.upper.energy_up.Goals.{After-pull}
 
@@ -72,8 +71,8 @@ attraction c =
 value_is : (c : After-pull) → read (read c.lowered-energy.result -ℤ read c.pull.result) ≡ energy_up (numbers_of c.args.params.now.case) (box_of c.args.x.now) c.args.y
 value_is c =
     read_is c
-    ∙ energy_up_is (numbers_of c.args.params.now.case) (box_of c.args.x.now) c.args.y c.entropy.result c.log_packing.result (pos c.push-push.result)
-    c.log_covolume-log.result c.log_rest.result c.pull.result (count_is c.args.params.now.case c.requires.one)
+    ∙ energy_up_is (numbers_of c.args.params.now.case) (box_of c.args.x.now) c.args.y c.args.params.now.case.n c.entropy.result c.log_packing.result (pos c.push-push.result)
+    c.log_covolume-log.result c.log_rest.result c.pull.result (count_of c.args.params.now.case)
     c.entropy.ensures.value c.log_packing.ensures.value (volume c) (logarithm c) c.log_rest.ensures.value (attraction c)
 
 pub returns-clause-value : goal.returns-clause-value

@@ -1,8 +1,9 @@
 -- The mixing term and the volume term as the code computes them.
-use Rattle.std.proofs.Common.{◌≡◌, ◌≢◌, ℕ, false, ◌==◌, ◌*◌, ◌<◌, ◌^◌, ℤ, pos, ◌*ℤ◌, refl, sym, arith}
+use Rattle.std.proofs.Common.{◌≡◌, ◌≢◌, ℕ, false, ◌==◌, ◌*◌, ◌<◌, ◌^◌, ◌≤◌, ℤ, pos, neg_ℤ, ◌*ℤ◌, unsigned_abs, refl, sym, arith, lit<}
+use Rattle.std.proofs.lemmas.Int.{ints}
 use Rattle.log_laws.specs.Squaring.{log_up}
 use Rattle.log_laws.specs.Whole.{floor_div, ceil_div, ceil_quotient}
-use Rattle.log_laws.proofs.Exports.{ceil_over-pos}
+use Rattle.log_laws.proofs.Exports.{ceil_over-pos, floor_over-le, lt-floor_over}
 use Rattle.case_types.specs.Bounds.{mixing_up}
 
 -- no fraction adds nothing
@@ -18,6 +19,13 @@ differs b h = grind arith
 pub mixing_some : (a b : ℕ) → b ≢ 0 → mixing_up a b ≡ ceil_div (pos a *ℤ log_up b 40) (pos (2 ^ 40))
 unfolding mixing_up
 mixing_some a b h = rw (differs b h) refl
+
+-- a ceiling in 2^-40 is as small as the number
+pub ceiling_small : (z : ℤ) (m : ℕ) → unsigned_abs z ≤ m * 2 ^ 40 → unsigned_abs (ceil_div z (pos (2 ^ 40))) ≤ m
+ceiling_small z m h =
+    let f = floor_over-le (neg_ℤ z) (2 ^ 40) (lit< tt) in
+    let g = lt-floor_over (neg_ℤ z) (2 ^ 40) (lit< tt) in
+    omega (arith, ints, h, f, g)
 
 -- a quotient of a product over a product
 pub quotient_is : (e : ℤ) (n b y s r : ℕ) → pos n ≡ e → 0 < y * s → r ≡ ceil_quotient (n * b) (y * s) → pos r ≡ ceil_div (e *ℤ pos b) (pos y *ℤ pos s)

@@ -1,9 +1,9 @@
-use Rattle.std.proofs.Common.{◌∙◌, ◌≤◌, ◌^◌, unsigned_abs, sym, arith}
+use Rattle.std.proofs.Common.{◌∙◌, ◌*◌, ◌≤◌, ◌^◌, unsigned_abs, sym, arith}
 use Rattle.std.proofs.lemmas.Int.{ints}
 use Rattle.log_laws.proofs.Exports.{back}
-use Rattle.helmholtz_density.proofs.Mixes.{mixing_none, mixing_some}
-use Rattle.helmholtz_density.proofs.upper.mixing.Goals as goal
-use Rattle.helmholtz_density.proofs.upper.mixing.Goals.{After-log2_hi}
+use Rattle.helmholtz_density.proofs.Terms.{mixing_none, mixing_some, ceiling_small}
+use Rattle.helmholtz_density.proofs.mixes.mixing.Goals as goal
+use Rattle.helmholtz_density.proofs.mixes.mixing.Goals.{After-log2_hi}
 
 pub returns-then-b-eq0-clause-value : goal.returns-then-b-eq0-clause-value
 returns-then-b-eq0-clause-value c = sym (mixing_none c.args.a c.args.b c.if-b-eq0.true)
@@ -24,5 +24,12 @@ returns-clause-value c =
     let p = c.part.ensures.small in
     let q = c.ceiling.ensures.small in
     let e = rw (back c.log2_hi.result (omega (arith, s)), c.log2_hi.ensures.value) at c.part.ensures.value in
-    let f = rw (back c.part.result (omega (arith, p)), e) at c.ceiling.ensures.value in
+    let f = rw (back c.part.result (omega (arith, p, c.requires.ordered, c.requires.inside)), e) at c.ceiling.ensures.value in
     back c.ceiling.result (omega (arith, q)) ∙ f ∙ sym (mixing_some c.args.a c.args.b c.if-b-eq0.false)
+
+pub returns-clause-small : goal.returns-clause-small
+returns-clause-small c =
+    let p = c.part.ensures.small in
+    let q = c.ceiling.ensures.small in
+    let r = back c.part.result (omega (arith, p, c.requires.ordered, c.requires.inside)) in
+    rw (back c.ceiling.result (omega (arith, q)), c.ceiling.ensures.value, r) (ceiling_small c.part.result (c.args.a * 2 ^ 6) (omega (arith, p)))

@@ -1,0 +1,141 @@
+//! Boxes of phases and mixing sums of more components, worked by hand.
+
+ghost use Rattle.std.specs.Prelude.{◌≡◌, ◌≤◌};
+
+use super::*;
+use crate::mixes::entropy;
+use case_types::{BoxX, Case, Name, Phase, Row, SLOTS};
+use std::test::Fail;
+
+/// 1 in 2^-40.
+const ONE: u64 = 1 << 40;
+
+/// A half in 2^-40.
+const HALF: u64 = 1 << 39;
+
+/// A quarter in 2^-40.
+const QUARTER: u64 = 1 << 38;
+
+/// A case of `n` like components.
+fn like_components(n: u8) -> Case
+    requires some { 1 ≤ n }
+    requires few { n ≤ 4 }
+    ensures { result.n ≡ n }
+{
+    let name = Name {
+        len: 0,
+        bytes: [0; 16],
+    };
+    let row = Row {
+        name,
+        tc: 300_000,
+        pc: 1_000_000,
+        w: 0,
+    };
+    Case {
+        n,
+        rows: [row; SLOTS],
+        k: [[0; SLOTS]; SLOTS],
+        z: [1; SLOTS],
+        total: n as u32,
+        t: 300_000,
+        p: 1_000_000,
+    }
+}
+
+/// The box of the phase of `n` components, if the first has a part and none has 2^104.
+fn box_of_phase(n: u8, parts: [u128; SLOTS]) -> Option<BoxX>
+    requires some { 1 ≤ n }
+    requires few { n ≤ 4 }
+{
+    let limit = 1 << 104;
+    if parts[0] == 0
+        || parts[0] >= limit
+        || parts[1] >= limit
+        || parts[2] >= limit
+        || parts[3] >= limit
+    {
+        return None;
+    }
+    let phase = Phase {
+        parts,
+        packing: 1 << 39,
+    };
+    Some(phase_box(&like_components(n), &phase))
+}
+
+/// Each part over the sum of the live parts, rounded down and rounded up.
+#[test]
+fn boxes_of_phases(rt: HostRuntime) -> Result<(), Fail> {
+    for (n, parts, a, b) in [
+        (1, [5, 7, 0, 7], [ONE, 0, 0, 0], [ONE, 0, 0, 0]),
+        (2, [1, 1, 0, 0], [HALF, HALF, 0, 0], [HALF, HALF, 0, 0]),
+        // a third and two thirds
+        (
+            2,
+            [1, 2, 9, 9],
+            [366_503_875_925, 733_007_751_850, 0, 0],
+            [366_503_875_926, 733_007_751_851, 0, 0],
+        ),
+        // all but one part of 2^100 + 1
+        (2, [1 << 100, 1, 0, 0], [ONE - 1, 0, 0, 0], [ONE, 1, 0, 0]),
+        // no part of a live component
+        (
+            3,
+            [3, 0, 1, 4],
+            [3 * QUARTER, 0, QUARTER, 0],
+            [3 * QUARTER, 0, QUARTER, 0],
+        ),
+        // sevenths
+        (
+            3,
+            [1, 2, 4, 0],
+            [157_073_089_682, 314_146_179_364, 628_292_358_729, 0],
+            [157_073_089_683, 314_146_179_365, 628_292_358_730, 0],
+        ),
+        // sixths and a half
+        (
+            4,
+            [1, 1, 1, 3],
+            [183_251_937_962, 183_251_937_962, 183_251_937_962, HALF],
+            [183_251_937_963, 183_251_937_963, 183_251_937_963, HALF],
+        ),
+        (4, [1 << 103; SLOTS], [QUARTER; SLOTS], [QUARTER; SLOTS]),
+    ] {
+        assert!(rt; n >= 1);
+        assert!(rt; n <= 4);
+        let x = box_of_phase(n, parts).ok_or("no box")?;
+        assert_eq!(rt; x.a, a, "lower ends at {n}");
+        assert_eq!(rt; x.b, b, "upper ends at {n}");
+    }
+    Ok(())
+}
+
+/// The least fraction times the logarithm of the greatest, over the components. The logarithm of `1/2^k` is `-k`.
+#[test]
+fn mixing_sums(rt: HostRuntime) {
+    let halves = BoxX {
+        a: [HALF, HALF, 0, 0],
+        b: [HALF, HALF, 0, 0],
+    };
+    let quarters = BoxX {
+        a: [QUARTER; SLOTS],
+        b: [QUARTER; SLOTS],
+    };
+    let mixed = BoxX {
+        a: [QUARTER, HALF, 0, 0],
+        b: [HALF, ONE, QUARTER, 0],
+    };
+    for (n, x, most) in [
+        // -1/2 once, and twice
+        (1, halves, -549_755_813_888),
+        (2, halves, -1_099_511_627_776),
+        // -2/4 three and four times
+        (3, quarters, -1_649_267_441_664),
+        (4, quarters, -2_199_023_255_552),
+        // -1/4, and nothing of the others
+        (4, mixed, -274_877_906_944),
+    ] {
+        assert_eq!(rt; entropy(n, &x), most, "at {n} {most}");
+    }
+}
