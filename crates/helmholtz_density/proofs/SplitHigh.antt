@@ -12,10 +12,9 @@ use Rattle.case_types.specs.Faults.{fault_of}
 use Rattle.case_types.specs.Holding.{HoldsParameters, HoldsMeans}
 use Rattle.case_types.specs.Instances.{Instance, IsInstance}
 use Rattle.case_types.specs.Numbers.{numbers_of, enclosures_of}
-use Rattle.pr_params.proofs.MeansHold.{holds_means}
+use Rattle.pr_params.proofs.MeansHold.{holds_means, ratio_low_positive, sized}
 use Rattle.pr_params.proofs.ParametersHold.{holds_parameters}
-use Rattle.pr_params.proofs.Ratios.{ratio_low_positive}
-use Rattle.pr_params.proofs.Sized.{IsSized, sized_one, count_of}
+use Rattle.pr_params.proofs.Sized.{IsSized, count_of}
 use Rattle.helmholtz_density.proofs.BoxOfParts.{in_box_of_parts, parts_top}
 use Rattle.helmholtz_density.proofs.EnergyHigh.{energy_at_most}
 use Rattle.helmholtz_density.proofs.Shares.{AreBelow, phases_at_most}
@@ -31,14 +30,14 @@ phase_from_means c x f sized low holds means state =
     (energy_at_most c (numbers_of c) x (box_of_parts c.n f.parts) (state_of f) f.packing sized low (omega (arith, ints, state.not_empty)) (omega (arith, ints, state.not_full))
     holds means (in_box_of_parts c.n f c.few state.some) state.some refl)
 
--- of one component
-pub phase_at_most : (c : Case) (x : Instance) (f : Phase) → c.n ≡ 1 → fault_of c ≡ None → IsInstance c (enclosures_of c) x → IsState c.n (state_of f) →
+pub phase_at_most : (c : Case) (x : Instance) (f : Phase) → fault_of c ≡ None → IsInstance c (enclosures_of c) x → IsState c.n (state_of f) →
     AtMost (energy_of c x (state_of f)) (bits (phase_up (numbers_of c) f))
-phase_at_most c x f one accepted inst state =
+phase_at_most c x f accepted inst state =
     let box = box_of_parts c.n f.parts in
     let holds = holds_parameters c x accepted inst in
-    phase_from_means c x f (sized_one c box one accepted (parts_top c.n f.parts c.few state.some)) (ratio_low_positive c box one accepted) holds
-    (holds_means c x box (state_of f) one accepted holds (in_box_of_parts c.n f c.few state.some) state.some) state
+    let inside = in_box_of_parts c.n f c.few state.some in
+    phase_from_means c x f (sized c box accepted (parts_top c.n f.parts c.few state.some)) (ratio_low_positive c x box (state_of f) accepted holds inside state.some) holds
+    (holds_means c x box (state_of f) accepted holds inside state.some) state
 
 -- ---- a split
 each_below : (c : Case) (x : Instance) (fs : List Phase) → ((f : Phase) → IsState c.n (state_of f) → AtMost (energy_of c x (state_of f)) (bits (phase_up (numbers_of c) f))) →
@@ -56,7 +55,6 @@ pub split_from_phases : (c : Case) (x : Instance) (s : Split) → Divides c (div
 split_from_phases c x s divides phase =
     phases_at_most c x (numbers_of c) s.sum s.phases.items divides.positive (count_of c) (each_below c x s.phases.items phase divides.phases)
 
--- of one component
-pub split_at_most : (c : Case) (x : Instance) (s : Split) → c.n ≡ 1 → fault_of c ≡ None → IsInstance c (enclosures_of c) x → Divides c (division_of s) →
+pub split_at_most : (c : Case) (x : Instance) (s : Split) → fault_of c ≡ None → IsInstance c (enclosures_of c) x → Divides c (division_of s) →
     AtMost (energy_of_division c x (division_of s)) (bits (split_up (numbers_of c) s))
-split_at_most c x s one accepted inst divides = split_from_phases c x s divides (λ f state. phase_at_most c x f one accepted inst state)
+split_at_most c x s accepted inst divides = split_from_phases c x s divides (λ f state. phase_at_most c x f accepted inst state)

@@ -17,7 +17,6 @@ use pr_params::Params;
 
 /// The energy of the split is at most this, in 2^-40 bit for a mole of feed.
 pub fn split_energy(params: &Params, split: &Split) -> i128
-    requires one { params.now.case.n ≡ 1 }
     requires divides { Divides params.now.case (division_of split.now) }
     ensures value { result ≡ split_up (numbers_of params.now.case) split.now }
     ensures at_most { (roots : Instance) →
@@ -33,7 +32,6 @@ pub fn split_energy(params: &Params, split: &Split) -> i128
 
 /// The energy of a phase by its share of the sum, at most.
 fn weighed_energy(params: &Params, sum: u128, phase: &Phase) -> i128
-    requires one { params.now.case.n ≡ 1 }
     requires some { 1 ≤ sum_below params.now.case.n (slice_index phase.now.parts) }
     requires inside { sum_below params.now.case.n (slice_index phase.now.parts) ≤ sum }
     requires sum { sum < 2 ^ 104 }

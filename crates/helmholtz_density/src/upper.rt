@@ -22,7 +22,6 @@ const ONE: u64 = 1 << 40;
 
 /// The energy at every composition of the box and at the packing fraction `y` is at most this, in 2^-40 bit.
 pub fn energy_up(params: &Params, x: &BoxX, y: u64) -> i128
-    requires one { params.now.case.n ≡ 1 }
     requires some { 1 ≤ y }
     requires inside { y < 2 ^ 40 }
     ensures value { result ≡ upper_energy (numbers_of params.now.case) (box_of x.now) y }

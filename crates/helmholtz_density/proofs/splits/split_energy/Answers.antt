@@ -70,4 +70,4 @@ pub returns-clause-at_most : goal.returns-clause-at_most
 returns-clause-at_most c = λ roots inst.
     let case = c.args.params.now.case in
     subst (λ (z : ℤ). AtMost (energy_of_division case roots (division_of c.args.split.now)) (bits z)) (sym (value_is (goal.at.returns-clause-at_most c).After-loop-phase))
-    (split_at_most case roots c.args.split.now c.requires.one c.args.params.now.accepted inst c.requires.divides)
+    (split_at_most case roots c.args.split.now c.args.params.now.accepted inst c.requires.divides)

@@ -11,10 +11,10 @@ use Rattle.log_laws.specs.LogSum.{AtMost}
 use Rattle.case_types.specs.Numbers.{numbers_of}
 use Rattle.pr_params.specs.Boxes.{box_of}
 use Rattle.pr_params.proofs.Signed.{natural_value, difference_read}
-use Rattle.pr_params.proofs.Sized.{count_of, sized_one, each_up_to}
+use Rattle.pr_params.proofs.Sized.{count_of, each_up_to}
 use Rattle.helmholtz_density.proofs.EnergyHigh.{energy_at_most}
 use Rattle.pr_params.proofs.ParametersHold.{holds_parameters}
-use Rattle.pr_params.proofs.MeansHold.{holds_means}
+use Rattle.pr_params.proofs.MeansHold.{holds_means, sized}
 use Rattle.helmholtz_density.proofs.Energy.{volume_part, attraction_part, energy_up_is, sum_size}
 use Rattle.helmholtz_density.proofs.Terms.{volume_is}
 use Rattle.helmholtz_density.proofs.upper.energy_up.Goals as goal
@@ -83,12 +83,12 @@ returns-clause-at_most c = λ roots f inst inside state is.
     let case = c.args.params.now.case in
     let box = box_of c.args.x.now in
     let holds = holds_parameters case roots c.args.params.now.accepted inst in
-    let means = holds_means case roots box f c.requires.one c.args.params.now.accepted holds inside state in
-    let sized = sized_one case box c.requires.one c.args.params.now.accepted
+    let means = holds_means case roots box f c.args.params.now.accepted holds inside state in
+    let large = sized case box c.args.params.now.accepted
     (λ i l. each_up_to 4 c.args.x.now.b (2 ^ 40) c.args.x.now.inside i (let s = case.few in omega (arith, l, s))) in
     let some : pos 0 ≤ℤ ratio_low (numbers_of case) box = subst (λ (z : ℤ). pos 0 ≤ℤ z) c.g_lo-ratio.ensures.value c.g_lo-ratio.ensures.low in
     subst (λ (z : ℤ). AtMost (energy_of case roots f) (bits z)) (sym (value_is (goal.at.returns-clause-at_most c).After-pull))
-    (energy_at_most case (numbers_of case) roots box f c.args.y sized some c.requires.some c.requires.inside holds means inside state is)
+    (energy_at_most case (numbers_of case) roots box f c.args.y large some c.requires.some c.requires.inside holds means inside state is)
 
 pub returns-clause-at_half : goal.returns-clause-at_half
 returns-clause-at_half c = λ half.
