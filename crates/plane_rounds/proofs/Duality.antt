@@ -94,7 +94,7 @@ pub certified : (c : Case) (tol budget : ℕ) (a : Answer) → c.n ≡ 1 → fau
 certified c tol budget a one accepted h = record {
   right = enclosures_right c;
   divides = h.divides;
-  at_most = λ x inst. rw h.upper (split_at_most c x a.split one accepted inst h.divides);
+  at_most = λ x inst. rw h.upper (split_at_most c x a.split accepted inst h.divides);
   at_least = λ x inst other divides. at_least_lowers (energy_of_division c x other)
       (record { num = plane_sum c.n (plane_of a.plane.lam) (feed c) +ℤ a.low *ℤ pos c.total; den = c.total * 2 ^ 40 })
       (bits (a.u -ℤ a.gap)) (lit< tt)
