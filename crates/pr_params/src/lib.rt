@@ -35,4 +35,4 @@ pub use lambdas::{lam_hi, lam_lo};
 pub use making::params;
 pub use numbers::Params;
 pub use pulls::weighed;
-pub use ranges::{b_range, fraction_hi, fraction_lo, g_hi, g_lo};
+pub use ranges::{b_range, g_hi, g_lo};

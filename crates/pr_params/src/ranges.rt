@@ -108,20 +108,3 @@ fn floor_ratio(attraction: u128, covolume: u128) -> u128
 {
     attraction * (1 << 47) / covolume
 }
-
-/// The least fraction of the first component, in 2^-40.
-pub fn fraction_lo(x: &BoxX) -> u64
-    ensures value { result ≡ slice_index x.now.a 0 }
-    ensures ordered { result ≤ slice_index x.now.b 0 }
-    ensures inside { result ≤ 2 ^ 40 }
-{
-    x.a[0]
-}
-
-/// The greatest fraction of the first component, in 2^-40.
-pub fn fraction_hi(x: &BoxX) -> u64
-    ensures value { result ≡ slice_index x.now.b 0 }
-    ensures inside { result ≤ 2 ^ 40 }
-{
-    x.b[0]
-}
