@@ -18,7 +18,7 @@ returns-clause-certified c =
     IfOk-weaker c.flashed.result (IsAnswer case c.args.tol c.args.budget)
     (λ (a : Answer). Certified case (enclosures_in p.case.n p.two p.e p.t p.q) (division_of a.split) a.u a.gap)
     (λ a h. subst (λ (e : Enclosures). Certified case e (division_of a.split) a.u a.gap) (sym p.printed)
-    (certified case c.args.tol c.args.budget a c.requires.one p.accepted h)) c.flashed.ensures.answer
+    (certified case c.args.tol c.args.budget a p.accepted h)) c.flashed.ensures.answer
 
 pub returns-clause-near : goal.returns-clause-near
 returns-clause-near c =
