@@ -1,5 +1,5 @@
 -- Why a cell has its letter, and why a search ends at it.
-use Rattle.std.proofs.Common.{◌≡◌, ℕ, ◌+◌, ◌/◌, ◌^◌, ◌≤◌, ◌||◌, nat_lt, ◌==◌, Bool, true, false, if◌then◌else◌, List, Some, None, ℤ, neg_ℤ, ◌<ℤ◌, unsigned_abs, IsTrue, sym, ap, arith}
+use Rattle.std.proofs.Common.{◌≡◌, ℕ, ◌+◌, ◌/◌, ◌^◌, ◌≤◌, ◌<◌, ◌-◌, ◌⊎◌, inl, inr, refl, ◌||◌, nat_lt, ◌==◌, Bool, true, false, if◌then◌else◌, List, Some, None, ℤ, neg_ℤ, ◌<ℤ◌, unsigned_abs, IsTrue, sym, ap, arith}
 use Rattle.std.proofs.lemmas.Int.{ints}
 use Rattle.case_types.specs.declared.rounds.Column.{Column}
 use Rattle.case_types.specs.Bases.{pure_composition}
@@ -8,7 +8,6 @@ use Rattle.case_types.specs.Columns.{IsColumn, Refutes, point_of, point_up}
 use Rattle.case_types.specs.Numbers.{Numbers}
 use Rattle.case_types.specs.Searches.{IsUncleared, MiddleRefutes, HasUnitEdge, IsCutOff}
 use Rattle.log_laws.specs.Sums.{list_below}
-use Rattle.box_search.proofs.Pure.{packing_named}
 use Rattle.box_search.proofs.SoFar.{none_misses}
 
 -- ---- the middle of a cell
@@ -59,5 +58,11 @@ unit_edge n k r edge b e f g h = rw (e, ← f, ← g) h
 pub no_unit_edge : (n k : ℕ) (r : Region) (edge : ℕ) (b : Bool) → k ≡ n → edge ≡ edge_to_halve n r → b ≡ is_unit r edge → b ≡ false → HasUnitEdge k r → ⊥
 no_unit_edge n k r edge b e f g wide h = let t : IsTrue b = rw (e, ← f, ← g) at h in cc
 
-pub packing_halved : (n : ℕ) (r : Region) → n ≡ 1 → 3 ≡ edge_to_halve n r
-packing_halved n r one = rw one (sym (packing_named r))
+-- the edge that is halved, by the numbers of the case
+pub edge_named : (n k : ℕ) (r : Region) (edge : ℕ) → k ≡ n → edge ≡ edge_to_halve n r → edge ≡ edge_to_halve k r
+edge_named n k r edge e f = rw (e, ← f) refl
+
+-- it is a fraction or the packing
+pub edge_inside : (n edge : ℕ) → n ≤ 4 → (edge < n - 1) ⊎ (edge ≡ 3) → edge ≤ 3
+edge_inside n edge few (inl less) = omega (arith, few, less)
+edge_inside n edge few (inr packing) = omega (arith, packing)

@@ -1,4 +1,4 @@
-pub mod Narrow
+pub mod Deep
 pub mod Letters
 pub mod Root
 pub mod Pure

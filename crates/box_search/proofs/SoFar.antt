@@ -1,5 +1,5 @@
 -- A search so far: what is written, with any visits that finish the cells on the stack, is a tree.
-use Rattle.std.proofs.Common.{◌≡◌, ℕ, ◌+◌, ◌^◌, ◌⊎◌, List, [], ◌∷◌, ◌++◌, map, ℤ, pos, neg_ℤ, unsigned_abs, ◌≤◌, ◌≤ℤ◌, ◌<ℤ◌, IsFalse, Bool, true, false, cond, inl, inr, Some, refl, sym, ap, ◌∙◌, append_assoc, arith}
+use Rattle.std.proofs.Common.{◌≡◌, ℕ, zero, suc, ◌+◌, ◌^◌, ◌⊎◌, List, [], ◌∷◌, ◌++◌, map, ℤ, pos, neg_ℤ, unsigned_abs, ◌≤◌, ◌≤ℤ◌, ◌<ℤ◌, IsFalse, Bool, true, false, cond, inl, inr, Some, refl, sym, ap, ◌∙◌, append_assoc, arith}
 use Rattle.std.proofs.lemmas.Int.{ints}
 use Rattle.std.proofs.lemmas.List.{append-nil, map-append}
 use Rattle.pr_params.proofs.Alpha.{abs_within}
@@ -155,18 +155,26 @@ reached_halved : (p : Numbers) (lam : List ℤ) (low : ℤ) (before : List Visit
 reached_halved p lam low before u h (inl there) = inl (has-left (λ v. IsStepAt p lam low v.region v.step) before (u ∷ []) there)
 reached_halved p lam low before u h (inr none) = inr (none.0, each-append (λ v. IsHalved v.step) before (u ∷ []) none.1 (h, tt))
 
--- a cell is halved along its packing
-pub halves : (p : Numbers) (lam : List ℤ) (delta low : ℤ) (old now new : List ℕ) (units more : ℕ) (r : Region) (stack below next : List Region) →
-    stack ≡ r ∷ below → next ≡ lower_half 3 r ∷ upper_half 3 r ∷ below → new ≡ now ++ 121 ∷ [] → HasStepCause p lam delta r (Halves 3) → more ≡ units + 1 →
+-- the letter of a halving is one of an edge
+one_edge : (edge : ℕ) → edge ≤ 3 → edges_in (letter_of (Halves edge) ∷ []) ≡ 1
+one_edge zero h = refl
+one_edge (suc zero) h = refl
+one_edge (suc (suc zero)) h = refl
+one_edge (suc (suc (suc zero))) h = refl
+one_edge (suc (suc (suc (suc edge)))) h = absurd (omega (arith, h))
+
+-- a cell is halved along an edge
+pub halves : (p : Numbers) (lam : List ℤ) (delta low : ℤ) (old now new : List ℕ) (units more edge : ℕ) (r : Region) (stack below next : List Region) → edge ≤ 3 →
+    stack ≡ r ∷ below → next ≡ lower_half edge r ∷ upper_half edge r ∷ below → new ≡ now ++ letter_of (Halves edge) ∷ [] → HasStepCause p lam delta r (Halves edge) → more ≡ units + 1 →
     SoFar p lam delta old now units low stack → SoFar p lam delta old new more low next
-halves p lam delta low old now new units more r stack below next e e2 f cause one h =
-    let u : Visit = record { region = r; step = Halves 3 } in
+halves p lam delta low old now new units more edge r stack below next inside e e2 f cause one h =
+    let u : Visit = record { region = r; step = Halves edge } in
     record {
       before = h.before ++ u ∷ [];
       written = written_more old now new h.before u h.written f;
       caused = each-append (λ v. HasStepCause p lam delta v.region v.step) h.before (u ∷ []) h.caused (cause, tt);
-      grows = λ rest k. rw append_assoc (h.grows (u ∷ rest) (rw e (finish_halved 3 r below rest (rw e2 at k))));
-      units_are = let z = edges-append (letters_of h.before) (121 ∷ []) in rw map-append (omega (arith, z, h.units_are, one));
+      grows = λ rest k. rw append_assoc (h.grows (u ∷ rest) (rw e (finish_halved edge r below rest (rw e2 at k))));
+      units_are = let z = edges-append (letters_of h.before) (letter_of (Halves edge) ∷ []) in rw map-append (omega (arith, z, one_edge edge inside, h.units_are, one));
       over = each-append (λ v. IsStepOver p lam low v.region v.step) h.before (u ∷ []) h.over (tt, tt);
       reached = reached_halved p lam low h.before u tt h.reached;
     }

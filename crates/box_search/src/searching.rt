@@ -1,7 +1,7 @@
 //! The search.
 
 ghost use Rattle.std.specs.Prelude.{◌≡◌, ◌≤◌, ◌+◌, ◌-◌, ◌*◌, ◌^◌, ℤ, [], ◌∷◌, length, IfSome, IfNone, Some, pos, ◌≤ℤ◌, unsigned_abs};
-ghost use Rattle.case_types.specs.Cells.{region_of, midpoint as middle_of_region};
+ghost use Rattle.case_types.specs.Cells.{region_of, midpoint as middle_of_region, letter_of, Halves};
 ghost use Rattle.case_types.specs.Searches.{MiddleRefutes};
 ghost use Rattle.case_types.specs.Columns.{IsColumn, Refutes, point_of};
 ghost use Rattle.case_types.specs.Numbers.{numbers_of};
@@ -12,7 +12,7 @@ use crate::found::Found;
 use crate::points::{column_at, refutes};
 use crate::stack::Stack;
 use case_types::{Cell, Column, Letters, Plane, Units};
-use density_boxes::{edge_to_halve, is_unit, midpoint};
+use density_boxes::{PACKING, edge_to_halve, is_unit, midpoint};
 use pr_params::Params;
 use tangent_bound::low_plain;
 
@@ -47,6 +47,7 @@ pub fn search(
     let mut stack = Stack::new(n);
     let mut low = HIGHEST;
     while let Some(cell) = stack.pop() {
+        let edge = edge_to_halve(n, &cell);
         let here = low_plain(params, plane, &cell);
         if here >= -delta {
             letters.push(b'p');
@@ -58,7 +59,7 @@ pub fn search(
             }
             units.spend();
             return Found::Refuted { column };
-        } else if is_unit(&cell, edge_to_halve(n, &cell)) {
+        } else if is_unit(&cell, edge) {
             let low = close(params, plane, smaller(low, here), letters, stack);
             return Found::Grain { low, cell };
         } else if units.is_spent() {
@@ -66,11 +67,19 @@ pub fn search(
             return Found::Spent { low };
         } else {
             units.spend();
-            letters.push(b'y');
-            stack.push_halves(&cell);
+            letters.push(edge_letter(edge));
+            stack.push_halves(&cell, edge);
         }
     }
     Found::AllClear { low }
+}
+
+/// The letter of a halving along this edge: `1`, `2` and `3` for a fraction, `y` for the packing.
+fn edge_letter(edge: u8) -> u8
+    requires { edge ≤ 3 }
+    ensures { result ≡ letter_of (Halves edge) }
+{
+    if edge == PACKING { b'y' } else { b'1' + edge }
 }
 
 /// The column in the middle of the cell, if it lies below the plane by more than `delta`.
