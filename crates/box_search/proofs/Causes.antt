@@ -1,13 +1,14 @@
 -- Why a cell has its letter, and why a search ends at it.
-use Rattle.std.proofs.Common.{◌≡◌, ℕ, ◌+◌, ◌/◌, ◌^◌, ◌≤◌, ◌<◌, ◌-◌, ◌⊎◌, inl, inr, refl, ◌||◌, nat_lt, ◌==◌, Bool, true, false, if◌then◌else◌, List, Some, None, ℤ, neg_ℤ, ◌<ℤ◌, unsigned_abs, IsTrue, sym, ap, arith}
+use Rattle.std.proofs.Common.{◌≡◌, ℕ, zero, suc, slice_index, ◌∙◌, ◌+◌, ◌/◌, ◌^◌, ◌≤◌, ◌<◌, ◌-◌, ◌⊎◌, inl, inr, refl, ◌||◌, nat_lt, ◌==◌, Bool, true, false, if◌then◌else◌, List, Some, None, ℤ, neg_ℤ, ◌<ℤ◌, unsigned_abs, IsTrue, ap, arith}
 use Rattle.std.proofs.lemmas.Int.{ints}
 use Rattle.case_types.specs.declared.rounds.Column.{Column}
 use Rattle.case_types.specs.Bases.{pure_composition}
-use Rattle.case_types.specs.Cells.{Region, edge_to_halve, is_unit, GridPoint, middle_sum, middle_point, midpoint, plain_low}
+use Rattle.case_types.specs.Cells.{Region, edge_to_halve, is_unit, GridPoint, middle_of, middle_sum, middle_point, midpoint, plain_low}
 use Rattle.case_types.specs.Columns.{IsColumn, Refutes, point_of, point_up}
 use Rattle.case_types.specs.Numbers.{Numbers}
 use Rattle.case_types.specs.Searches.{IsUncleared, MiddleRefutes, HasUnitEdge, IsCutOff}
-use Rattle.log_laws.specs.Sums.{list_below}
+use Rattle.log_laws.specs.Sums.{list_below, sum_below}
+use Rattle.density_boxes.proofs.Spread.{spread}
 use Rattle.box_search.proofs.SoFar.{none_misses}
 
 -- ---- the middle of a cell
@@ -16,15 +17,30 @@ there : (b : Bool) (x g : GridPoint) → Some g ≡ (if b then None else Some x)
 there true x g e = absurd (let z : Some g ≡ None = e in cc)
 there false x g e = let z : Some g ≡ Some x = e in cc
 
--- the middle of a cell of one component is the component alone
-pub middle_alone : (n : ℕ) (r : Region) (composition : List ℕ) (packing : ℕ) → n ≡ 1 →
-    Some (record { composition = composition; packing = packing }) ≡ midpoint n r → midpoint n r ≡ Some (record { composition = pure_composition; packing = packing })
+-- the middle that is answered
+pub middle_there : (n : ℕ) (r : Region) (g : GridPoint) → Some g ≡ midpoint n r → g ≡ middle_point n r
+middle_there n r g e = there (nat_lt (2 ^ 20) (middle_sum n r) || (r.ylo + r.yhi) / 2 == 0) (middle_point n r) g e
+
+-- the fractions of the components that are there add up to those of all
+first_whole : (n : ℕ) (f : ℕ → ℕ) (rest : ℕ) → 1 ≤ n → n ≤ 4 → sum_below n (slice_index (spread n f rest)) ≡ sum_below 4 (slice_index (spread n f rest))
 unfolding list_below
-middle_alone n r composition packing one e =
-    let g : GridPoint = record { composition = composition; packing = packing } in
-    let same : g ≡ middle_point 1 r = there (nat_lt (2 ^ 20) (middle_sum 1 r) || (r.ylo + r.yhi) / 2 == 0) (middle_point 1 r) g (rw one at e) in
-    let alone : composition ≡ pure_composition = ap (λ (x : GridPoint). x.composition) same in
-    rw (← alone) (sym e)
+first_whole zero f rest h l = absurd (omega (arith, h))
+first_whole (suc zero) f rest h l = omega arith
+first_whole (suc (suc zero)) f rest h l = omega arith
+first_whole (suc (suc (suc zero))) f rest h l = omega arith
+first_whole (suc (suc (suc (suc zero)))) f rest h l = omega arith
+first_whole (suc (suc (suc (suc (suc n))))) f rest h l = absurd (omega (arith, l))
+
+pub middle_whole : (n : ℕ) (r : Region) (g : GridPoint) → 1 ≤ n → n ≤ 4 → Some g ≡ midpoint n r → sum_below 4 (slice_index g.composition) ≡ 2 ^ 20 →
+    sum_below n (slice_index g.composition) ≡ 2 ^ 20
+middle_whole n r g h l e all =
+    let comp : g.composition ≡ spread n (middle_of r) (2 ^ 20 - middle_sum n r) = ap (λ (x : GridPoint). x.composition) (middle_there n r g e) in
+    rw comp (first_whole n (middle_of r) (2 ^ 20 - middle_sum n r) h l ∙ (rw comp at all))
+
+-- the middle of a cell of one component is the component alone
+pub middle_pure : (n : ℕ) (r : Region) (g : GridPoint) → n ≡ 1 → Some g ≡ midpoint n r → g.composition ≡ pure_composition
+unfolding list_below
+middle_pure n r g one e = ap (λ (x : GridPoint). x.composition) (middle_there 1 r g (rw one at e))
 
 -- where the middle has too great an energy it doesn't cut the plane off
 pub too_great : (p : Numbers) (lam : List ℤ) (delta : ℤ) (r : Region) (g : GridPoint) → midpoint p.count r ≡ Some g → 2 ^ 49 ≤ unsigned_abs (point_up p g) →

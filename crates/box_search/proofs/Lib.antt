@@ -5,3 +5,4 @@ pub mod Pure
 pub mod SoFar
 pub mod Closing
 pub mod Causes
+pub mod Planes

@@ -35,7 +35,7 @@ pub fn search(
     requires delta_high { delta ≤ℤ pos (2 ^ 39) }
     requires room { 2 * (units.old.budget - units.old.spent) + 200 ≤ letters.old.spare }
     ensures found { IsFound (numbers_of params.now.case) plane.now.lam delta units.new result }
-    ensures pure { IsPure result }
+    ensures pure { params.now.case.n ≡ 1 → IsPure result }
     ensures small { unsigned_abs (low_of result) ≤ 2 ^ 107 }
     ensures root { IsRootOpen (numbers_of params.now.case) plane.now.lam delta result }
     ensures letters { Writes letters.old letters.new (units.new.spent - units.old.spent) }
@@ -84,18 +84,17 @@ fn edge_letter(edge: u8) -> u8
 
 /// The column in the middle of the cell, if it lies below the plane by more than `delta`.
 fn refuting(params: &Params, plane: &Plane, delta: i128, cell: &Cell) -> Option<Column>
-    requires one { params.now.case.n ≡ 1 }
     requires delta_low { pos 1 ≤ℤ delta }
     requires delta_high { delta ≤ℤ pos (2 ^ 39) }
     ensures column { IfSome result (λ c. IsColumn (numbers_of params.now.case) c) }
-    ensures pure { IfSome result (λ c. c.comp ≡ 2 ^ 20 ∷ 0 ∷ 0 ∷ 0 ∷ []) }
+    ensures pure { params.now.case.n ≡ 1 → IfSome result (λ c. c.comp ≡ 2 ^ 20 ∷ 0 ∷ 0 ∷ 0 ∷ []) }
     ensures refutes { IfSome result (λ c. Refutes (numbers_of params.now.case) plane.now.lam delta (point_of c)) }
     ensures middle { IfSome result (λ c. middle_of_region (numbers_of params.now.case).count (region_of cell.now) ≡ Some (point_of c)) }
     ensures none { IfNone result (MiddleRefutes (numbers_of params.now.case) plane.now.lam delta (region_of cell.now) → ⊥) }
 {
-    let (_, packing) = midpoint(params.case.n, cell)?;
-    let column = column_at(params, packing)?;
-    if refutes(plane, delta, &column) {
+    let (comp, packing) = midpoint(params.case.n, cell)?;
+    let column = column_at(params, comp, packing)?;
+    if refutes(params.case.n, plane, delta, &column) {
         Some(column)
     } else {
         None
