@@ -1,15 +1,14 @@
 -- Why a cell has its letter, and why a search ends at it.
-use Rattle.std.proofs.Common.{◌≡◌, ℕ, zero, suc, slice_index, ◌∙◌, ◌+◌, ◌/◌, ◌^◌, ◌≤◌, ◌<◌, ◌-◌, ◌⊎◌, inl, inr, refl, ◌||◌, nat_lt, ◌==◌, Bool, true, false, if◌then◌else◌, List, Some, None, ℤ, neg_ℤ, ◌<ℤ◌, unsigned_abs, IsTrue, ap, arith}
+use Rattle.std.proofs.Common.{◌≡◌, ℕ, zero, suc, slice_index, ◌∙◌, ◌+◌, ◌/◌, ◌^◌, ◌≤◌, ◌<◌, ◌-◌, ◌⊎◌, inl, inr, refl, ◌||◌, nat_lt, ◌==◌, Bool, true, false, if◌then◌else◌, List, Some, None, ℤ, neg_ℤ, ◌<ℤ◌, unsigned_abs, IsTrue, IsFalse, ap, arith}
 use Rattle.std.proofs.lemmas.Int.{ints}
 use Rattle.case_types.specs.declared.rounds.Column.{Column}
 use Rattle.case_types.specs.Bases.{pure_composition}
-use Rattle.case_types.specs.Cells.{Region, edge_to_halve, is_unit, GridPoint, middle_of, middle_sum, middle_point, midpoint, plain_low}
+use Rattle.case_types.specs.Cells.{Region, misses, edge_to_halve, is_unit, GridPoint, middle_of, middle_sum, middle_point, midpoint, plain_low}
 use Rattle.case_types.specs.Columns.{IsColumn, Refutes, point_of, point_up}
 use Rattle.case_types.specs.Numbers.{Numbers}
 use Rattle.case_types.specs.Searches.{IsUncleared, MiddleRefutes, HasUnitEdge, IsCutOff}
 use Rattle.log_laws.specs.Sums.{list_below, sum_below}
 use Rattle.density_boxes.proofs.Spread.{spread}
-use Rattle.box_search.proofs.SoFar.{none_misses}
 
 -- ---- the middle of a cell
 -- an answer that is there
@@ -54,8 +53,8 @@ pub middle_stays : (p : Numbers) (lam : List ℤ) (delta : ℤ) (r : Region) (g 
 middle_stays p lam delta r g e above h = above (rw e at h)
 
 -- ---- cells
-pub uncleared : (p : Numbers) (lam : List ℤ) (delta : ℤ) (r : Region) → p.count ≡ 1 → plain_low p lam r <ℤ neg_ℤ delta → IsUncleared p lam delta r
-uncleared p lam delta r one h = record { meets = none_misses p.count r one; below = h }
+pub uncleared : (p : Numbers) (lam : List ℤ) (delta : ℤ) (r : Region) → IsFalse (misses p.count r) → plain_low p lam r <ℤ neg_ℤ delta → IsUncleared p lam delta r
+uncleared p lam delta r meets h = record { meets = meets; below = h }
 
 -- the column in the middle of the cell in hand is kept
 pub cut_off : (p : Numbers) (lam : List ℤ) (delta : ℤ) (kept : Column) (hand : Region) → IsUncleared p lam delta hand → midpoint p.count hand ≡ Some (point_of kept) →

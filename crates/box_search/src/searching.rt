@@ -12,7 +12,7 @@ use crate::found::Found;
 use crate::points::{column_at, refutes};
 use crate::stack::Stack;
 use case_types::{Cell, Column, Letters, Plane, Units};
-use density_boxes::{PACKING, edge_to_halve, is_unit, midpoint};
+use density_boxes::{PACKING, edge_to_halve, is_unit, midpoint, misses};
 use pr_params::Params;
 use tangent_bound::low_plain;
 
@@ -30,7 +30,6 @@ pub fn search(
     letters: &mut Letters,
     units: &mut Units,
 ) -> Found
-    requires one { params.now.case.n ≡ 1 }
     requires delta_low { pos 1 ≤ℤ delta }
     requires delta_high { delta ≤ℤ pos (2 ^ 39) }
     requires room { 2 * (units.old.budget - units.old.spent) + 200 ≤ letters.old.spare }
@@ -47,6 +46,10 @@ pub fn search(
     let mut stack = Stack::new(n);
     let mut low = HIGHEST;
     while let Some(cell) = stack.pop() {
+        if misses(n, &cell) {
+            letters.push(b'm');
+            continue;
+        }
         let edge = edge_to_halve(n, &cell);
         let here = low_plain(params, plane, &cell);
         if here >= -delta {
@@ -103,7 +106,6 @@ fn refuting(params: &Params, plane: &Plane, delta: i128, cell: &Cell) -> Option<
 
 /// Writes the leaf letter of the cell in hand and of the cells that are left, and answers the least low.
 fn close(params: &Params, plane: &Plane, low: i128, letters: &mut Letters, mut stack: Stack) -> i128
-    requires one { params.now.case.n ≡ 1 }
     requires room { length stack + 1 ≤ letters.old.spare }
     requires small { unsigned_abs low ≤ 2 ^ 107 }
     ensures low { result ≤ℤ low }
@@ -114,8 +116,12 @@ fn close(params: &Params, plane: &Plane, low: i128, letters: &mut Letters, mut s
     letters.push(b'p');
     let mut low = low;
     while let Some(cell) = stack.pop() {
-        letters.push(b'p');
-        low = smaller(low, low_plain(params, plane, &cell));
+        if misses(params.case.n, &cell) {
+            letters.push(b'm');
+        } else {
+            letters.push(b'p');
+            low = smaller(low, low_plain(params, plane, &cell));
+        }
     }
     low
 }

@@ -16,7 +16,7 @@ use Rattle.box_search.proofs.Deep.{deep_root, deep_rest, deep_room, deep_halves}
 use Rattle.box_search.proofs.Pure.{count_is, not_one}
 use Rattle.box_search.proofs.Root.{begun_rest, root_open}
 use Rattle.box_search.proofs.Causes.{middle_refutes, uncleared, cut_off, unit_edge, no_unit_edge, edge_named, edge_inside}
-use Rattle.box_search.proofs.SoFar.{IsLesser, lesser_small, highest, none_misses, begins, stands, halves, ended, stops_spent, stops_grain, low_clear}
+use Rattle.box_search.proofs.SoFar.{IsLesser, lesser_small, highest, root_meets, begins, passes, stands, halves, ended, stops_spent, stops_grain, low_clear}
 use Rattle.box_search.proofs.searching.search.Answers.Hand.{Mid, here_low, delta_read, not_clear, root_not_clear, cell_uncleared, far_below, lesser_of, mid_small, stopped_letters, stopped}
 use Rattle.box_search.proofs.searching.search.Goals as goal
 use Rattle.box_search.proofs.searching.search.Goals.{After-cell-else-is_spent-2-1}
@@ -47,7 +47,7 @@ loop-cell-preserved-then-here-delta c =
     let e = c.in-Some.ensures.some in
     let n : length c.loop-cell.stack ≡ length c.pop.new.self + 1 = ap length e ∙ omega arith in
     let spent = c.loop-cell.units.spent - c.args.units.now.spent in
-    let more = one_more c.args.letters.now c.loop-cell.letters c.push.new.self (2 * spent + 1 - length c.loop-cell.stack) 112 old.letters c.push.ensures.items c.push.ensures.room in
+    let more = one_more c.args.letters.now c.loop-cell.letters c.push-then-here-delta.new.self (2 * spent + 1 - length c.loop-cell.stack) 112 old.letters c.push-then-here-delta.ensures.items c.push-then-here-delta.ensures.room in
     let count : 2 * spent + 1 - length c.loop-cell.stack + 1 ≡ 2 * spent + 1 - length c.pop.new.self = omega (arith, n, old.counted) in
     let d = neg_ℤ c.args.delta in
     let either = c.smaller-low.ensures.either d (omega (arith, ints, old.low))
@@ -71,9 +71,32 @@ loop-cell-preserved-then-here-delta c =
       so_far =
           rw read
           (stands (numbers_of c.args.params.now.case) c.args.plane.now.lam _ (to_z w128 c.loop-cell.low-bits) c.smaller-low.result c.args.letters.now.items c.loop-cell.letters.items
-          c.push.new.self.items spent (region_of c.in-Some.cell) c.loop-cell.stack c.pop.new.self e c.push.ensures.items
-          (none_misses (numbers_of c.args.params.now.case).count (region_of c.in-Some.cell) (count_is c.args.params.now.case ∙ c.requires.one), rw c.low_plain-here.ensures.value at clear)
+          c.push-then-here-delta.new.self.items spent (region_of c.in-Some.cell) c.loop-cell.stack c.pop.new.self e c.push-then-here-delta.ensures.items
+          (rw (count_is c.args.params.now.case, ← c.misses.ensures) c.if-misses.false, rw c.low_plain-here.ensures.value at clear)
           (rw c.low_plain-here.ensures.value at lesser) (rw (← c.low_plain-here.ensures.value) (omega (arith, ints, c.low_plain-here.ensures.small))) old.so_far);
+      counted = omega (arith, n, old.counted);
+    }
+
+pub loop-cell-preserved-then-misses : goal.loop-cell-preserved-then-misses
+loop-cell-preserved-then-misses c =
+    let old = c.loop-cell.invariant in
+    let e = c.in-Some.ensures.some in
+    let n : length c.loop-cell.stack ≡ length c.pop.new.self + 1 = ap length e ∙ omega arith in
+    let spent = c.loop-cell.units.spent - c.args.units.now.spent in
+    let more = one_more c.args.letters.now c.loop-cell.letters c.push.new.self (2 * spent + 1 - length c.loop-cell.stack) 109 old.letters c.push.ensures.items c.push.ensures.room in
+    let count : 2 * spent + 1 - length c.loop-cell.stack + 1 ≡ 2 * spent + 1 - length c.pop.new.self = omega (arith, n, old.counted) in
+    record {
+      deep = deep_rest (region_of c.in-Some.cell) c.pop.new.self (rw e at old.deep);
+      begun = begun_rest (numbers_of c.args.params.now.case) c.args.plane.now.lam (to_z w128 (of_z w128 c.args.delta)) (region_of c.in-Some.cell) c.loop-cell.stack c.pop.new.self e old.begun;
+      low = old.low;
+      high = old.high;
+      budget = old.budget;
+      spent = old.spent;
+      letters = rw count at more;
+      so_far =
+          passes (numbers_of c.args.params.now.case) c.args.plane.now.lam _ (to_z w128 c.loop-cell.low-bits) c.args.letters.now.items c.loop-cell.letters.items
+          c.push.new.self.items spent (region_of c.in-Some.cell) c.loop-cell.stack c.pop.new.self e c.push.ensures.items
+          (rw (count_is c.args.params.now.case, ← c.misses.ensures) c.if-misses.true) old.so_far;
       counted = omega (arith, n, old.counted);
     }
 
@@ -236,7 +259,7 @@ returns-then-is_unit-clause-searched c =
     let closes = rw (back c.smaller-then-is_unit.result (omega (arith, mid_small here c.smaller-then-is_unit.result mid))) at c.close-low-then-is_unit.ensures.closes in
     rw (back c.close-low-then-is_unit.result (omega (arith, c.close-low-then-is_unit.ensures.small)))
     (stops_grain (numbers_of case) c.args.plane.now.lam c.args.delta (to_z w128 c.loop-cell.low-bits) c.smaller-then-is_unit.result c.close-low-then-is_unit.result c.args.letters.now.items c.loop-cell.letters.items
-    c.close-low-then-is_unit.new.letters.items (c.loop-cell.units.spent - c.args.units.now.spent) c.in-Some.cell c.loop-cell.stack c.pop.new.self (count_is case ∙ c.requires.one)
+    c.close-low-then-is_unit.new.letters.items (c.loop-cell.units.spent - c.args.units.now.spent) c.in-Some.cell c.loop-cell.stack c.pop.new.self
     c.in-Some.ensures.some
     (record {
       same = refl;
@@ -265,5 +288,5 @@ returns-clause-searched c =
     ended (numbers_of case) c.args.plane.now.lam c.args.delta (to_z w128 c.loop-cell.low-bits) c.args.letters.now.items c.loop-cell.letters.items c.loop-cell.letters.items
     (c.loop-cell.units.spent - c.args.units.now.spent) (c.loop-cell.units.spent - c.args.units.now.spent) c.loop-cell.stack [] (AllClear (to_z w128 c.loop-cell.low-bits)) c.in_default.ensures.none refl
     (sym (append-nil c.loop-cell.letters.items)) (omega arith)
-    (λ t before e over reached. low_clear (numbers_of case) c.args.plane.now.lam (to_z w128 c.loop-cell.low-bits) t (root_region (numbers_of case).count) before e over reached)
+    (λ t before e over reached. low_clear (numbers_of case) c.args.plane.now.lam (to_z w128 c.loop-cell.low-bits) t (root_region (numbers_of case).count) before (root_meets (numbers_of case).count (omega (arith, count_is case, case.few))) e over reached)
     (rw delta at c.loop-cell.invariant.so_far)
