@@ -1,14 +1,14 @@
 -- The cells that are left when a search stops: their leaf letters, and the least of their lows.
-use Rattle.std.proofs.Common.{◌≡◌, ℕ, List, [], ◌∷◌, ◌++◌, map, ℤ, inl, inr, refl, ap, ◌∙◌, append_assoc, arith}
+use Rattle.std.proofs.Common.{◌≡◌, ℕ, List, [], ◌∷◌, ◌++◌, map, ℤ, IsTrue, IsFalse, inl, inr, refl, ap, ◌∙◌, append_assoc, arith}
 use Rattle.std.proofs.lemmas.Int.{ints}
 use Rattle.std.proofs.lemmas.List.{append-nil, map-append}
-use Rattle.case_types.specs.Cells.{Region, Visit, letters_of, plain_low}
+use Rattle.case_types.specs.Cells.{Region, Visit, misses, letters_of, plain_low}
 use Rattle.case_types.specs.Numbers.{Numbers}
 use Rattle.case_types.specs.Searches.{IsStepOver, IsStepAt, left_visit}
 use Rattle.case_types.proofs.Cover.{has-left, has-right}
 use Rattle.case_types.proofs.Walks.{each-append, each_over_less}
 use Rattle.box_search.specs.Written.{IsLeastFrom, Closes}
-use Rattle.box_search.proofs.SoFar.{plain_visit, left_plain, plain_at, IsLesser, lesser_is, written_more}
+use Rattle.box_search.proofs.SoFar.{plain_visit, missing_visit, plain_at, IsLesser, lesser_is, written_more}
 
 -- the least with one leaf more
 least_more : (p : Numbers) (lam : List ℤ) (first low next : ℤ) (vs : List Visit) (r : Region) → IsLesser low (plain_low p lam r) next →
@@ -29,8 +29,8 @@ least_more p lam first low next vs r lesser h = record {
 pub record Closing (p : Numbers) (lam : List ℤ) (first : ℤ) (all : List Region) (old now : List ℕ) (low : ℤ) (stack : List Region) : Type 0 where
   pub done : List Region
   pub split : all ≡ done ++ stack
-  pub letters : now ≡ old ++ 112 ∷ letters_of (map plain_visit done)
-  pub lows : IsLeastFrom p lam first low (map plain_visit done)
+  pub letters : now ≡ old ++ 112 ∷ letters_of (map (left_visit p.count) done)
+  pub lows : IsLeastFrom p lam first low (map (left_visit p.count) done)
 
 pub close_begins : (p : Numbers) (lam : List ℤ) (first : ℤ) (all : List Region) (old now : List ℕ) → now ≡ old ++ 112 ∷ [] → Closing p lam first all old now first all
 close_begins p lam first all old now e = record {
@@ -41,17 +41,38 @@ close_begins p lam first all old now e = record {
 }
 
 pub close_more : (p : Numbers) (lam : List ℤ) (first low next : ℤ) (all stack below : List Region) (old now new : List ℕ) (r : Region) →
-    stack ≡ r ∷ below → new ≡ now ++ 112 ∷ [] → IsLesser low (plain_low p lam r) next → Closing p lam first all old now low stack → Closing p lam first all old new next below
-close_more p lam first low next all stack below old now new r e f lesser h = record {
+    IsFalse (misses p.count r) → stack ≡ r ∷ below → new ≡ now ++ 112 ∷ [] → IsLesser low (plain_low p lam r) next → Closing p lam first all old now low stack → Closing p lam first all old new next below
+close_more p lam first low next all stack below old now new r meets e f lesser h = record {
   done = h.done ++ r ∷ [];
   split = rw (append_assoc h.done (r ∷ []) below, ← e) h.split;
-  letters = rw map-append (written_more old now new (plain_visit r ∷ map plain_visit h.done) (plain_visit r) h.letters f);
-  lows = rw map-append (least_more p lam first low next (map plain_visit h.done) r lesser h.lows);
+  letters = rw (map-append, meets) (written_more old now new (plain_visit r ∷ map (left_visit p.count) h.done) (plain_visit r) h.letters f);
+  lows = rw (map-append, meets) (least_more p lam first low next (map (left_visit p.count) h.done) r lesser h.lows);
 }
 
-pub closed : (p : Numbers) (lam : List ℤ) (first low : ℤ) (all stack : List Region) (old now : List ℕ) → p.count ≡ 1 → stack ≡ [] →
+-- a cell that holds no composition changes no low
+least_passes : (p : Numbers) (lam : List ℤ) (first low : ℤ) (vs : List Visit) (r : Region) → IsTrue (misses p.count r) →
+    IsLeastFrom p lam first low vs → IsLeastFrom p lam first low (vs ++ missing_visit r ∷ [])
+least_passes p lam first low vs r miss h = record {
+  lower = h.lower;
+  over = each-append (λ v. IsStepOver p lam low v.region v.step) vs (missing_visit r ∷ []) h.over (miss, tt);
+  reached = elim h.reached [
+    | inl old ↦ inl old
+    | inr there ↦ inr (has-left (λ v. IsStepAt p lam low v.region v.step) vs (missing_visit r ∷ []) there)
+  ];
+}
+
+pub close_passes : (p : Numbers) (lam : List ℤ) (first low : ℤ) (all stack below : List Region) (old now new : List ℕ) (r : Region) →
+    IsTrue (misses p.count r) → stack ≡ r ∷ below → new ≡ now ++ 109 ∷ [] → Closing p lam first all old now low stack → Closing p lam first all old new low below
+close_passes p lam first low all stack below old now new r miss e f h = record {
+  done = h.done ++ r ∷ [];
+  split = rw (append_assoc h.done (r ∷ []) below, ← e) h.split;
+  letters = rw (map-append, miss) (written_more old now new (plain_visit r ∷ map (left_visit p.count) h.done) (missing_visit r) h.letters f);
+  lows = rw (map-append, miss) (least_passes p lam first low (map (left_visit p.count) h.done) r miss h.lows);
+}
+
+pub closed : (p : Numbers) (lam : List ℤ) (first low : ℤ) (all stack : List Region) (old now : List ℕ) → stack ≡ [] →
     Closing p lam first all old now low stack → Closes p lam first all old now low
-closed p lam first low all stack old now one e h =
+closed p lam first low all stack old now e h =
     let same : all ≡ h.done = rw (e, append-nil h.done) at h.split in
-    let leaves : map (left_visit p.count) all ≡ map plain_visit h.done = left_plain p.count all one ∙ ap (λ rs. map plain_visit rs) same in
+    let leaves : map (left_visit p.count) all ≡ map (left_visit p.count) h.done = ap (λ rs. map (left_visit p.count) rs) same in
     record { written = rw leaves h.letters; lows = rw leaves h.lows }

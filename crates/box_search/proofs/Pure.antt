@@ -1,5 +1,5 @@
 -- A plane and a box at the composition of one component.
-use Rattle.std.proofs.Common.{◌≡◌, ℕ, ◌^◌, ◌<◌, List, [], ◌∷◌, ℤ, pos, ◌+ℤ◌, ◌*ℤ◌, slice_index_or, unsigned_abs, IsTrue, nat_lt, ◌-◌, ◌≤◌, inl, inr, refl, arith, lit<}
+use Rattle.std.proofs.Common.{◌≡◌, ℕ, ◌^◌, ◌<◌, List, [], ◌∷◌, ℤ, pos, ◌+ℤ◌, ◌*ℤ◌, slice_index_or, unsigned_abs, IsTrue, nat_lt, ◌≤◌, inl, inr, refl, arith, lit<}
 use Rattle.std.proofs.lemmas.Int.{ints}
 use Rattle.std.proofs.lemmas.Bool.{cases_lt}
 use Rattle.case_types.specs.Cells.{Region, edge_to_halve}
@@ -42,9 +42,9 @@ pub packing_named : (r : Region) → edge_to_halve 1 r ≡ 3
 unfolding edge_to_halve
 packing_named r = refl
 
-pub not_one : (a b : ℕ) → a < b → (b - a ≡ 1 → ⊥) → 2 ≤ b - a
-not_one a b h n =
-    elim (cases_lt (b - a) 2) [
+pub not_one : (length : ℕ) → 1 ≤ length → (length ≡ 1 → ⊥) → 2 ≤ length
+not_one length h n =
+    elim (cases_lt length 2) [
       | inl less ↦ absurd (n (omega (arith, h, less)))
       | inr more ↦ more
     ]

@@ -1,10 +1,10 @@
 -- A search so far: what is written, with any visits that finish the cells on the stack, is a tree.
-use Rattle.std.proofs.Common.{◌≡◌, ℕ, ◌+◌, ◌^◌, ◌⊎◌, List, [], ◌∷◌, ◌++◌, map, ℤ, pos, neg_ℤ, unsigned_abs, ◌≤◌, ◌≤ℤ◌, ◌<ℤ◌, IsFalse, Bool, true, false, cond, inl, inr, Some, refl, sym, ap, ◌∙◌, append_assoc, arith}
+use Rattle.std.proofs.Common.{◌≡◌, ℕ, zero, suc, ◌+◌, ◌^◌, ◌⊎◌, List, [], ◌∷◌, ◌++◌, map, ℤ, pos, neg_ℤ, unsigned_abs, ◌≤◌, ◌≤ℤ◌, ◌<ℤ◌, IsFalse, IsTrue, ◌==◌, slice_set, if◌then◌else◌, Bool, true, false, cond, inl, inr, Some, refl, sym, ap, ◌∙◌, append_assoc, arith}
 use Rattle.std.proofs.lemmas.Int.{ints}
 use Rattle.std.proofs.lemmas.List.{append-nil, map-append}
 use Rattle.pr_params.proofs.Alpha.{abs_within}
 use Rattle.case_types.specs.declared.cells.Cell.{Cell}
-use Rattle.case_types.specs.Cells.{Region, region_of, root_region, lower_half, upper_half, misses, Mark, Misses, Plain, Tree, Leaf, Node, Step, Ends, Halves, Visit, visits, letter_of, letters_of, HasVisit, plain_low}
+use Rattle.case_types.specs.Cells.{Region, region_of, root_region, lower_half, upper_half, misses, packing_edge, cut, Mark, Misses, Plain, Sloped, Tree, Leaf, Node, Step, Ends, Halves, Visit, visits, letter_of, letters_of, HasVisit, plain_low}
 use Rattle.case_types.specs.Numbers.{Numbers}
 use Rattle.case_types.specs.Searches.{EachVisit, HaveCauses, HasStepCause, IsStepOver, IsStepAt, IsLeastLow, HasLeastLow, HasEndCause, WantsUnit, IsGrainOf, left_visit, closing, edges_in}
 use Rattle.case_types.proofs.Cover.{total, has-left, has-right}
@@ -41,15 +41,12 @@ unfolding Finishes
 finish_all n [] = refl
 finish_all n (r ∷ below) = finish_leaf _ r below (map (left_visit n) below) (finish_all n below)
 
--- ---- cells of one component
+-- ---- leaves
 abbrev pub plain_visit : Region → Visit
 plain_visit r = record { region = r; step = Ends Plain }
 
-pub none_misses : (n : ℕ) (r : Region) → n ≡ 1 → IsFalse (misses n r)
-none_misses n r e = rw e refl
-
-pub left_plain : (n : ℕ) (left : List Region) → n ≡ 1 → map (left_visit n) left ≡ map plain_visit left
-left_plain n left e = rw e refl
+abbrev pub missing_visit : Region → Visit
+missing_visit r = record { region = r; step = Ends Misses }
 
 pub plain_at : (p : Numbers) (lam : List ℤ) (low : ℤ) (r : Region) → low ≡ plain_low p lam r → IsStepAt p lam low r (Ends Plain)
 plain_at p lam low r e = ap Some (sym e)
@@ -73,21 +70,39 @@ pub lesser_small : (a b low : ℤ) → IsLesser a b low → neg_ℤ highest ≤�
 lesser_small a b low h least small =
     let above = h.2 (neg_ℤ highest) least (omega (arith, ints, small)) in abs_within low (2 ^ 107) above (omega (arith, ints, h.1, small))
 
--- a walk of which no cell is a leaf
-abbrev pub IsHalved : Step → Type 0
-IsHalved (Ends mark) = ⊥
-IsHalved (Halves edge) = Unit {0}
+-- a walk of which no cell has a low
+abbrev pub HasNoLow : ℕ → Region → Step → Type 0
+HasNoLow n r (Ends Misses) = IsTrue (misses n r)
+HasNoLow n r (Ends Plain) = ⊥
+HasNoLow n r (Ends Sloped) = ⊥
+HasNoLow n r (Halves edge) = Unit {0}
 
-some_leaf : (t : Tree) (r : Region) (vs : List Visit) → EachVisit (λ v. IsHalved v.step) (visits t r ++ vs) → ⊥
+-- the whole domain holds compositions, and so does the lower half of a cell that does
+pub root_meets : (n : ℕ) → n ≤ 4 → IsFalse (misses n (root_region n))
+root_meets zero h = refl
+root_meets (suc zero) h = refl
+root_meets (suc (suc zero)) h = refl
+root_meets (suc (suc (suc zero))) h = refl
+root_meets (suc (suc (suc (suc zero)))) h = refl
+root_meets (suc (suc (suc (suc (suc n))))) h = absurd (omega (arith, h))
+
+lower_meets : (n : ℕ) (b : Bool) (r : Region) (y : ℕ) (hi : List ℕ) → IsFalse (misses n r) →
+    IsFalse (misses n (if b then record r { yhi = y } else record r { hi = hi }))
+lower_meets n true r y hi h = h
+lower_meets n false r y hi h = h
+
+some_leaf : (n : ℕ) (t : Tree) (r : Region) (vs : List Visit) → IsFalse (misses n r) → EachVisit (λ v. HasNoLow n v.region v.step) (visits t r ++ vs) → ⊥
 unfolding visits
-some_leaf (Leaf mark) r vs h = h.0
-some_leaf (Node edge lower upper) r vs h =
-    some_leaf lower (lower_half edge r) (visits upper (upper_half edge r) ++ vs) (rw (← append_assoc (visits lower (lower_half edge r)) (visits upper (upper_half edge r)) vs) h.1)
+some_leaf n (Leaf Misses) r vs m h = let t : IsTrue (misses n r) = h.0 in cc (m, t)
+some_leaf n (Leaf Plain) r vs m h = h.0
+some_leaf n (Leaf Sloped) r vs m h = h.0
+some_leaf n (Node edge lower upper) r vs m h =
+    some_leaf n lower (lower_half edge r) (visits upper (upper_half edge r) ++ vs) (lower_meets n (edge == packing_edge) r (cut r edge) (slice_set r.hi edge (cut r edge)) m) (rw (← append_assoc (visits lower (lower_half edge r)) (visits upper (upper_half edge r)) vs) h.1)
 
 -- a leaf has the low, or there is no leaf
 abbrev pub IsReached : Numbers → List ℤ → ℤ → List Visit → Type 0
 IsReached p lam low before =
-    HasVisit (λ v. IsStepAt p lam low v.region v.step) before ⊎ ((low ≡ highest) × EachVisit (λ v. IsHalved v.step) before)
+    HasVisit (λ v. IsStepAt p lam low v.region v.step) before ⊎ ((low ≡ highest) × EachVisit (λ v. HasNoLow p.count v.region v.step) before)
 
 pub record SoFar (p : Numbers) (lam : List ℤ) (delta : ℤ) (old now : List ℕ) (units : ℕ) (low : ℤ) (stack : List Region) : Type 0 where
   pub before : List Visit
@@ -149,35 +164,61 @@ stands p lam delta low next old now new units r stack below e f clear lesser sma
   reached = inl (reached_more p lam low next h.before r lesser small h.reached);
 }
 
-reached_halved : (p : Numbers) (lam : List ℤ) (low : ℤ) (before : List Visit) (u : Visit) → IsHalved u.step →
+reached_halved : (p : Numbers) (lam : List ℤ) (low : ℤ) (before : List Visit) (u : Visit) → HasNoLow p.count u.region u.step →
     IsReached p lam low before →
     IsReached p lam low (before ++ u ∷ [])
 reached_halved p lam low before u h (inl there) = inl (has-left (λ v. IsStepAt p lam low v.region v.step) before (u ∷ []) there)
-reached_halved p lam low before u h (inr none) = inr (none.0, each-append (λ v. IsHalved v.step) before (u ∷ []) none.1 (h, tt))
+reached_halved p lam low before u h (inr none) = inr (none.0, each-append (λ v. HasNoLow p.count v.region v.step) before (u ∷ []) none.1 (h, tt))
 
--- a cell is halved along its packing
-pub halves : (p : Numbers) (lam : List ℤ) (delta low : ℤ) (old now new : List ℕ) (units more : ℕ) (r : Region) (stack below next : List Region) →
-    stack ≡ r ∷ below → next ≡ lower_half 3 r ∷ upper_half 3 r ∷ below → new ≡ now ++ 121 ∷ [] → HasStepCause p lam delta r (Halves 3) → more ≡ units + 1 →
+-- a cell holds no composition
+pub passes : (p : Numbers) (lam : List ℤ) (delta low : ℤ) (old now new : List ℕ) (units : ℕ) (r : Region) (stack below : List Region) →
+    stack ≡ r ∷ below → new ≡ now ++ 109 ∷ [] → IsTrue (misses p.count r) →
+    SoFar p lam delta old now units low stack → SoFar p lam delta old new units low below
+passes p lam delta low old now new units r stack below e f miss h = record {
+  before = h.before ++ missing_visit r ∷ [];
+  written = written_more old now new h.before (missing_visit r) h.written f;
+  caused = each-append (λ v. HasStepCause p lam delta v.region v.step) h.before (missing_visit r ∷ []) h.caused (miss, tt);
+  grows = λ rest k. rw append_assoc (h.grows (missing_visit r ∷ rest) (rw e (finish_leaf Misses r below rest k)));
+  units_are = let z = edges-append (letters_of h.before) (109 ∷ []) in rw map-append (omega (arith, z, h.units_are));
+  over = each-append (λ v. IsStepOver p lam low v.region v.step) h.before (missing_visit r ∷ []) h.over (miss, tt);
+  reached = reached_halved p lam low h.before (missing_visit r) miss h.reached;
+}
+
+-- the letter of a halving is one of an edge
+one_edge : (edge : ℕ) → edge ≤ 3 → edges_in (letter_of (Halves edge) ∷ []) ≡ 1
+one_edge zero h = refl
+one_edge (suc zero) h = refl
+one_edge (suc (suc zero)) h = refl
+one_edge (suc (suc (suc zero))) h = refl
+one_edge (suc (suc (suc (suc edge)))) h = absurd (omega (arith, h))
+
+-- a cell is halved along an edge
+pub halves : (p : Numbers) (lam : List ℤ) (delta low : ℤ) (old now new : List ℕ) (units more edge : ℕ) (r : Region) (stack below next : List Region) → edge ≤ 3 →
+    stack ≡ r ∷ below → next ≡ lower_half edge r ∷ upper_half edge r ∷ below → new ≡ now ++ letter_of (Halves edge) ∷ [] → HasStepCause p lam delta r (Halves edge) → more ≡ units + 1 →
     SoFar p lam delta old now units low stack → SoFar p lam delta old new more low next
-halves p lam delta low old now new units more r stack below next e e2 f cause one h =
-    let u : Visit = record { region = r; step = Halves 3 } in
+halves p lam delta low old now new units more edge r stack below next inside e e2 f cause one h =
+    let u : Visit = record { region = r; step = Halves edge } in
     record {
       before = h.before ++ u ∷ [];
       written = written_more old now new h.before u h.written f;
       caused = each-append (λ v. HasStepCause p lam delta v.region v.step) h.before (u ∷ []) h.caused (cause, tt);
-      grows = λ rest k. rw append_assoc (h.grows (u ∷ rest) (rw e (finish_halved 3 r below rest (rw e2 at k))));
-      units_are = let z = edges-append (letters_of h.before) (121 ∷ []) in rw map-append (omega (arith, z, h.units_are, one));
+      grows = λ rest k. rw append_assoc (h.grows (u ∷ rest) (rw e (finish_halved edge r below rest (rw e2 at k))));
+      units_are = let z = edges-append (letters_of h.before) (letter_of (Halves edge) ∷ []) in rw map-append (omega (arith, z, one_edge edge inside, h.units_are, one));
       over = each-append (λ v. IsStepOver p lam low v.region v.step) h.before (u ∷ []) h.over (tt, tt);
       reached = reached_halved p lam low h.before u tt h.reached;
     }
 
 -- ---- the end
+-- a cell that is left and holds compositions has the letter `p`
+left_plain : (n : ℕ) (r : Region) → IsFalse (misses n r) → left_visit n r ≡ plain_visit r
+left_plain n r h = rw h refl
+
 -- the low of a search that leaves cells
-pub low_left : (p : Numbers) (lam : List ℤ) (low mid least : ℤ) (hand : Region) (rest : List Region) → p.count ≡ 1 → IsLesser low (plain_low p lam hand) mid →
+pub low_left : (p : Numbers) (lam : List ℤ) (low mid least : ℤ) (hand : Region) (rest : List Region) → IsFalse (misses p.count hand) → IsLesser low (plain_low p lam hand) mid →
     plain_low p lam hand <ℤ highest → IsLeastFrom p lam mid least (map (left_visit p.count) rest) →
     (before : List Visit) → EachVisit (λ v. IsStepOver p lam low v.region v.step) before → IsReached p lam low before →
     IsLeastLow p lam least (before ++ map (left_visit p.count) (hand ∷ rest))
-low_left p lam low mid least hand rest one lesser small h before over reached = rw left_hand record {
+low_left p lam low mid least hand rest meets lesser small h before over reached = rw left_is record {
   over = each-append (λ v. IsStepOver p lam least v.region v.step) before (plain_visit hand ∷ map (left_visit p.count) rest)
       (each_over_less p lam low least (omega (arith, ints, lesser.0, h.lower)) before over) (omega (arith, ints, lesser.1, h.lower), h.over);
   reached = elim h.reached [
@@ -195,15 +236,15 @@ low_left p lam low mid least hand rest one lesser small h before over reached = 
     P : Visit → Type 0
     P = λ v. IsStepAt p lam least v.region v.step
 
-    left_hand : map (left_visit p.count) (hand ∷ rest) ≡ plain_visit hand ∷ map (left_visit p.count) rest
-    left_hand = ap (λ n. left_visit n hand ∷ map (left_visit p.count) rest) one
+    left_is : map (left_visit p.count) (hand ∷ rest) ≡ plain_visit hand ∷ map (left_visit p.count) rest
+    left_is = ap (λ v. v ∷ map (left_visit p.count) rest) (left_plain p.count hand meets)
 
 -- the low of a search that clears every cell
-pub low_clear : (p : Numbers) (lam : List ℤ) (low : ℤ) (t : Tree) (r : Region) (before : List Visit) → visits t r ≡ before ++ [] →
+pub low_clear : (p : Numbers) (lam : List ℤ) (low : ℤ) (t : Tree) (r : Region) (before : List Visit) → IsFalse (misses p.count r) → visits t r ≡ before ++ [] →
     EachVisit (λ v. IsStepOver p lam low v.region v.step) before → IsReached p lam low before → IsLeastLow p lam low (before ++ [])
-low_clear p lam low t r before e over (inl there) = rw (append-nil before) record { over = over; reached = there }
-low_clear p lam low t r before e over (inr none) =
-    absurd (some_leaf t r [] (rw (append-nil (visits t r), e, append-nil before) none.1))
+low_clear p lam low t r before m e over (inl there) = rw (append-nil before) record { over = over; reached = there }
+low_clear p lam low t r before m e over (inr none) =
+    absurd (some_leaf p.count t r [] m (rw (append-nil (visits t r), e, append-nil before) none.1))
 
 left-edges : (n : ℕ) (left : List Region) → edges_in (letters_of (map (left_visit n) left)) ≡ 0
 left-edges n [] = refl
@@ -249,23 +290,23 @@ ended p lam delta low old now new units more stack left found e cause f g low_of
           rw map-append (omega (arith, z, none, k.units_are, g));
     }
 
-letters_left : (n : ℕ) (now new : List ℕ) (hand : Region) (rest : List Region) → n ≡ 1 → new ≡ now ++ 112 ∷ letters_of (map (left_visit n) rest) →
+letters_left : (n : ℕ) (now new : List ℕ) (hand : Region) (rest : List Region) → IsFalse (misses n hand) → new ≡ now ++ 112 ∷ letters_of (map (left_visit n) rest) →
     new ≡ now ++ letters_of (map (left_visit n) (hand ∷ rest))
-letters_left n now new hand rest one e = rw one e
+letters_left n now new hand rest meets e = rw meets e
 
 -- the search stops at the cell in hand, for want of a unit or since it is of one unit
-pub stops_spent : (p : Numbers) (lam : List ℤ) (delta low mid least : ℤ) (old now new : List ℕ) (units : ℕ) (hand : Region) (stack rest : List Region) → p.count ≡ 1 →
+pub stops_spent : (p : Numbers) (lam : List ℤ) (delta low mid least : ℤ) (old now new : List ℕ) (units : ℕ) (hand : Region) (stack rest : List Region) →
     stack ≡ hand ∷ rest → WantsUnit p lam delta hand → Closes p lam mid rest now new least → IsLesser low (plain_low p lam hand) mid → plain_low p lam hand <ℤ highest →
     SoFar p lam delta old now units low stack → Searches p lam delta old new units (Spent least)
-stops_spent p lam delta low mid least old now new units hand stack rest one e cause closes lesser small h =
-    ended p lam delta low old now new units units stack (hand ∷ rest) (Spent least) e cause (letters_left p.count now new hand rest one closes.written) (omega arith)
-    (λ t before k over reached. low_left p lam low mid least hand rest one lesser small closes.lows before over reached) h
+stops_spent p lam delta low mid least old now new units hand stack rest e cause closes lesser small h =
+    ended p lam delta low old now new units units stack (hand ∷ rest) (Spent least) e cause (letters_left p.count now new hand rest cause.uncleared.meets closes.written) (omega arith)
+    (λ t before k over reached. low_left p lam low mid least hand rest cause.uncleared.meets lesser small closes.lows before over reached) h
 
-pub stops_grain : (p : Numbers) (lam : List ℤ) (delta low mid least : ℤ) (old now new : List ℕ) (units : ℕ) (cell : Cell) (stack rest : List Region) → p.count ≡ 1 →
+pub stops_grain : (p : Numbers) (lam : List ℤ) (delta low mid least : ℤ) (old now new : List ℕ) (units : ℕ) (cell : Cell) (stack rest : List Region) →
     stack ≡ region_of cell ∷ rest → IsGrainOf p lam delta (region_of cell) (region_of cell) → Closes p lam mid rest now new least →
     IsLesser low (plain_low p lam (region_of cell)) mid → plain_low p lam (region_of cell) <ℤ highest →
     SoFar p lam delta old now units low stack → Searches p lam delta old new units (Grain least cell)
-stops_grain p lam delta low mid least old now new units cell stack rest one e cause closes lesser small h =
+stops_grain p lam delta low mid least old now new units cell stack rest e cause closes lesser small h =
     ended p lam delta low old now new units units stack (region_of cell ∷ rest) (Grain least cell) e cause
-    (letters_left p.count now new (region_of cell) rest one closes.written) (omega arith)
-    (λ t before k over reached. low_left p lam low mid least (region_of cell) rest one lesser small closes.lows before over reached) h
+    (letters_left p.count now new (region_of cell) rest cause.stuck.uncleared.meets closes.written) (omega arith)
+    (λ t before k over reached. low_left p lam low mid least (region_of cell) rest cause.stuck.uncleared.meets lesser small closes.lows before over reached) h

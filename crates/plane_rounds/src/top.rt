@@ -13,12 +13,15 @@ use crate::rounds::{cut_short, round};
 use crate::splits::plane_of;
 use box_search::column_at;
 use case_types::{
-    Answer, Column, Columns, Letters, Memory, Outcome, Pivot, Pivots, Rounds, Units, Work,
+    Answer, Column, Columns, Letters, Memory, Outcome, Pivot, Pivots, Rounds, SLOTS, Units, Work,
 };
 use density_boxes::root;
 use pr_params::Params;
 use std::alloc::Global;
 use tangent_bound::low_plain;
+
+/// The composition of one component alone, in 2^-20.
+const PURE: [u32; SLOTS] = [1 << 20, 0, 0, 0];
 
 /// The rounds of a flash. All memory is taken before the first unit is spent.
 pub fn flashed(alloc: Global, params: &Params, tol: u32, budget: u32) -> Result<Answer, Memory>
@@ -87,7 +90,7 @@ fn first_column(params: &Params) -> Column
     ensures comp { result.comp ≡ 2 ^ 20 ∷ 0 ∷ 0 ∷ 0 ∷ [] }
     ensures packing { result.packing ≡ 2 ^ 39 }
 {
-    match column_at(params, 1 << 39) {
+    match column_at(params, PURE, 1 << 39) {
         Some(column) => column,
         None => unreachable!(),
     }

@@ -1,10 +1,9 @@
-use Rattle.std.proofs.Common.{◌≡◌, ◌^◌, ◌<◌, unsigned_abs, refl, arith, ap, ◌∙◌, to_z, of_z}
+use Rattle.std.proofs.Common.{◌≡◌, ◌^◌, ◌<◌, unsigned_abs, arith, ◌∙◌, to_z, of_z}
 use Rattle.std.specs.Int.{w64, w128}
 use Rattle.std.proofs.lemmas.Int.{ints}
 use Rattle.log_laws.specs.Whole.{ceil_over}
 use Rattle.log_laws.proofs.Exports.{back}
-use Rattle.case_types.specs.Numbers.{Numbers}
-use Rattle.pr_params.proofs.One.{numbers_one}
+use Rattle.box_search.proofs.Pure.{count_is}
 use Rattle.box_search.proofs.points.column_at.Goals as goal
 
 pub returns-clause-column : goal.returns-clause-column
@@ -15,10 +14,10 @@ returns-clause-column c =
     let up_read : to_z w64 (of_z w64 (to_z w128 (of_z w128 up))) ≡ up = omega (arith, ints, small) in
     let cost_read : to_z w64 (of_z w64 (to_z w128 (of_z w128 c.cost_of.result))) ≡ c.cost_of.result = omega (arith, ints, c.cost_of.ensures.small) in
     let cost : c.cost_of.result ≡ ceil_over up (2 ^ 10) = rw wide at c.cost_of.ensures.value in
-    let count = ap (λ (p : Numbers). p.count) (numbers_one c.args.params.now.case c.requires.one) in
+    let value = rw c.box_at.ensures at c.energy_up-up.ensures.value in
     record {
-      point = record { whole = rw count refl; not_empty = c.requires.some; not_full = c.requires.inside };
-      up = up_read ∙ c.energy_up-up.ensures.value;
+      point = record { whole = rw (count_is c.args.params.now.case) c.requires.whole; not_empty = c.requires.some; not_full = c.requires.inside };
+      up = up_read ∙ value;
       small = rw up_read small;
       cost = cost_read ∙ (rw up_read cost);
     }

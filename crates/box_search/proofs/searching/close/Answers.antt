@@ -8,15 +8,15 @@ use Rattle.case_types.specs.Numbers.{numbers_of}
 use Rattle.box_search.proofs.Letters.{no_more, one_more}
 use Rattle.box_search.proofs.Pure.{count_is}
 use Rattle.box_search.proofs.SoFar.{IsLesser}
-use Rattle.box_search.proofs.Closing.{close_begins, close_more, closed}
+use Rattle.box_search.proofs.Closing.{close_begins, close_more, close_passes, closed}
 use Rattle.box_search.proofs.searching.close.Goals as goal
 
 pub loop-cell-preserved : goal.loop-cell-preserved
 loop-cell-preserved c =
     let n : length c.loop-cell.stack ≡ length c.pop.new.self + 1 = ap length c.in-Some.ensures.some ∙ omega arith in
     let old = c.loop-cell.invariant in
-    let more = one_more c.args.letters.now c.loop-cell.letters c.push-in-Some.new.self (length c.args.stack - length c.loop-cell.stack + 1) 112
-    old.letters c.push-in-Some.ensures.items c.push-in-Some.ensures.room in
+    let more = one_more c.args.letters.now c.loop-cell.letters c.push-else-misses.new.self (length c.args.stack - length c.loop-cell.stack + 1) 112
+    old.letters c.push-else-misses.ensures.items c.push-else-misses.ensures.room in
     let count : length c.args.stack - length c.loop-cell.stack + 1 + 1 ≡ length c.args.stack - length c.pop.new.self + 1 = omega (arith, n, old.left) in
     let lesser : IsLesser (to_z w128 c.loop-cell.low-bits) c.low_plain.result c.smaller-low.result = (
       omega (arith, ints, c.smaller-low.ensures.first),
@@ -31,12 +31,31 @@ loop-cell-preserved c =
       small = rw (back c.smaller-low.result (omega (arith, size))) size;
       letters = rw count at more;
       left = omega (arith, n, old.left);
-      room = omega (arith, n, old.room, c.push-in-Some.ensures.room);
+      room = omega (arith, n, old.room, c.push-else-misses.ensures.room);
       closing =
           rw read
           (close_more (numbers_of c.args.params.now.case) c.args.plane.now.lam _ (to_z w128 c.loop-cell.low-bits) c.smaller-low.result c.args.stack c.loop-cell.stack c.pop.new.self
-          c.args.letters.now.items c.loop-cell.letters.items c.push-in-Some.new.self.items (region_of c.in-Some.cell) c.in-Some.ensures.some c.push-in-Some.ensures.items
+          c.args.letters.now.items c.loop-cell.letters.items c.push-else-misses.new.self.items (region_of c.in-Some.cell) (rw (count_is c.args.params.now.case, ← c.misses.ensures) c.if-misses.false) c.in-Some.ensures.some c.push-else-misses.ensures.items
           (rw c.low_plain.ensures.value at lesser) old.closing);
+    }
+
+pub loop-cell-preserved-then-misses : goal.loop-cell-preserved-then-misses
+loop-cell-preserved-then-misses c =
+    let n : length c.loop-cell.stack ≡ length c.pop.new.self + 1 = ap length c.in-Some.ensures.some ∙ omega arith in
+    let old = c.loop-cell.invariant in
+    let more = one_more c.args.letters.now c.loop-cell.letters c.push-then-misses.new.self (length c.args.stack - length c.loop-cell.stack + 1) 109
+    old.letters c.push-then-misses.ensures.items c.push-then-misses.ensures.room in
+    let count : length c.args.stack - length c.loop-cell.stack + 1 + 1 ≡ length c.args.stack - length c.pop.new.self + 1 = omega (arith, n, old.left) in
+    record {
+      low = old.low;
+      small = old.small;
+      letters = rw count at more;
+      left = omega (arith, n, old.left);
+      room = omega (arith, n, old.room, c.push-then-misses.ensures.room);
+      closing =
+          close_passes (numbers_of c.args.params.now.case) c.args.plane.now.lam _ (to_z w128 c.loop-cell.low-bits) c.args.stack c.loop-cell.stack c.pop.new.self
+          c.args.letters.now.items c.loop-cell.letters.items c.push-then-misses.new.self.items (region_of c.in-Some.cell)
+          (rw (count_is c.args.params.now.case, ← c.misses.ensures) c.if-misses.true) c.in-Some.ensures.some c.push-then-misses.ensures.items old.closing;
     }
 
 pub loop-cell-init : goal.loop-cell-init
@@ -57,5 +76,5 @@ loop-cell-init c =
 pub returns-clause-closes : goal.returns-clause-closes
 returns-clause-closes c =
     closed (numbers_of c.args.params.now.case) c.args.plane.now.lam c.args.low (to_z w128 c.loop-cell.low-bits) c.args.stack c.loop-cell.stack c.args.letters.now.items c.loop-cell.letters.items
-    (count_is c.args.params.now.case ∙ c.requires.one) c.in_default.ensures.none
+    c.in_default.ensures.none
     (rw (back c.args.low (omega (arith, c.requires.small))) at c.loop-cell.invariant.closing)

@@ -1,10 +1,10 @@
 mod Hand
-use Rattle.std.proofs.Common.{◌≡◌, ◌≤◌, ◌+◌, ◌-◌, ◌*◌, ◌^◌, [], ◌∷◌, length, ℕ, List, ℤ, pos, neg_ℤ, unsigned_abs, ◌<ℤ◌, to_z, of_z, ◌≤ℤ◌, ap, sym, refl, ◌∙◌, inl, inr, arith}
+use Rattle.std.proofs.Common.{◌≡◌, ◌≤◌, ◌+◌, ◌-◌, ◌*◌, ◌^◌, [], ◌∷◌, ◌++◌, length, ℕ, List, ℤ, pos, neg_ℤ, unsigned_abs, ◌<ℤ◌, to_z, of_z, ◌≤ℤ◌, ap, sym, refl, ◌∙◌, inl, inr, arith}
 use Rattle.std.specs.Int.{w128}
 use Rattle.std.proofs.lemmas.Int.{ints}
 use Rattle.std.proofs.lemmas.List.{append-nil}
 use Rattle.log_laws.proofs.Exports.{back}
-use Rattle.case_types.specs.Cells.{region_of, root_region, plain_low}
+use Rattle.case_types.specs.Cells.{region_of, root_region, lower_half, upper_half, edge_length, plain_low}
 use Rattle.case_types.specs.Columns.{point_of}
 use Rattle.case_types.specs.Numbers.{numbers_of}
 use Rattle.case_types.specs.Searches.{IsUncleared, WantsUnit}
@@ -12,11 +12,11 @@ use Rattle.case_types.specs.Spared.{Spared}
 use Rattle.box_search.specs.declared.found.Found.TheVariants.{AllClear, Refuted, Spent}
 use Rattle.box_search.specs.Written.{Writes, WritesSome, Closes, Searches}
 use Rattle.box_search.proofs.Letters.{no_more, one_more, then_more, writes}
-use Rattle.box_search.proofs.Narrow.{narrow_root, narrow_rest, narrow_halves}
-use Rattle.box_search.proofs.Pure.{count_is, packing_named, not_one}
+use Rattle.box_search.proofs.Deep.{deep_root, deep_rest, deep_room, deep_halves}
+use Rattle.box_search.proofs.Pure.{count_is, not_one}
 use Rattle.box_search.proofs.Root.{begun_rest, root_open}
-use Rattle.box_search.proofs.Causes.{middle_refutes, uncleared, cut_off, unit_edge, no_unit_edge, packing_halved}
-use Rattle.box_search.proofs.SoFar.{IsLesser, lesser_small, highest, none_misses, begins, stands, halves, ended, stops_spent, stops_grain, low_clear}
+use Rattle.box_search.proofs.Causes.{middle_refutes, uncleared, cut_off, unit_edge, no_unit_edge, edge_named, edge_inside}
+use Rattle.box_search.proofs.SoFar.{IsLesser, lesser_small, highest, root_meets, begins, passes, stands, halves, ended, stops_spent, stops_grain, low_clear}
 use Rattle.box_search.proofs.searching.search.Answers.Hand.{Mid, here_low, delta_read, not_clear, root_not_clear, cell_uncleared, far_below, lesser_of, mid_small, stopped_letters, stopped}
 use Rattle.box_search.proofs.searching.search.Goals as goal
 use Rattle.box_search.proofs.searching.search.Goals.{After-cell-else-is_spent-2-1}
@@ -24,11 +24,11 @@ use Rattle.box_search.proofs.searching.search.Goals.{After-cell-else-is_spent-2-
 -- ---- the loop
 pub loop-cell-init : goal.loop-cell-init
 loop-cell-init c =
-    let n : length c.new-stack.result ≡ 1 = ap length c.new-stack.ensures in
+    let n : length c.new-stack.result ≡ 1 = ap length c.new-stack.ensures.whole in
     let none : 2 * (c.args.units.now.spent - c.args.units.now.spent) + 1 - 1 ≡ 0 = omega arith in
-    let first : c.new-stack.result ≡ root_region (numbers_of c.args.params.now.case).count ∷ [] = rw (count_is c.args.params.now.case) c.new-stack.ensures in
+    let first : c.new-stack.result ≡ root_region (numbers_of c.args.params.now.case).count ∷ [] = rw (count_is c.args.params.now.case) c.new-stack.ensures.whole in
     record {
-      narrow = rw (c.new-stack.ensures, c.requires.one) narrow_root;
+      deep = rw c.new-stack.ensures.whole (deep_root c.args.params.now.case.n c.args.params.now.case.few c.new-stack.ensures.halvings);
       begun = inl first;
       low = omega (arith, ints, c.requires.delta_low, c.requires.delta_high);
       high = omega (arith, ints);
@@ -47,7 +47,7 @@ loop-cell-preserved-then-here-delta c =
     let e = c.in-Some.ensures.some in
     let n : length c.loop-cell.stack ≡ length c.pop.new.self + 1 = ap length e ∙ omega arith in
     let spent = c.loop-cell.units.spent - c.args.units.now.spent in
-    let more = one_more c.args.letters.now c.loop-cell.letters c.push.new.self (2 * spent + 1 - length c.loop-cell.stack) 112 old.letters c.push.ensures.items c.push.ensures.room in
+    let more = one_more c.args.letters.now c.loop-cell.letters c.push-then-here-delta.new.self (2 * spent + 1 - length c.loop-cell.stack) 112 old.letters c.push-then-here-delta.ensures.items c.push-then-here-delta.ensures.room in
     let count : 2 * spent + 1 - length c.loop-cell.stack + 1 ≡ 2 * spent + 1 - length c.pop.new.self = omega (arith, n, old.counted) in
     let d = neg_ℤ c.args.delta in
     let either = c.smaller-low.ensures.either d (omega (arith, ints, old.low))
@@ -61,7 +61,7 @@ loop-cell-preserved-then-here-delta c =
     let clear : neg_ℤ (to_z w128 (of_z w128 c.args.delta)) ≤ℤ c.low_plain-here.result =
     omega (arith, ints, c.if-here-delta.true, c.requires.delta_low, c.requires.delta_high, c.low_plain-here.ensures.small) in
     record {
-      narrow = narrow_rest (region_of c.in-Some.cell) c.pop.new.self (rw e at old.narrow);
+      deep = deep_rest (region_of c.in-Some.cell) c.pop.new.self (rw e at old.deep);
       begun = begun_rest (numbers_of c.args.params.now.case) c.args.plane.now.lam (to_z w128 (of_z w128 c.args.delta)) (region_of c.in-Some.cell) c.loop-cell.stack c.pop.new.self e old.begun;
       low = omega (arith, ints, either);
       high = omega (arith, ints, old.high, c.smaller-low.ensures.first);
@@ -71,48 +71,71 @@ loop-cell-preserved-then-here-delta c =
       so_far =
           rw read
           (stands (numbers_of c.args.params.now.case) c.args.plane.now.lam _ (to_z w128 c.loop-cell.low-bits) c.smaller-low.result c.args.letters.now.items c.loop-cell.letters.items
-          c.push.new.self.items spent (region_of c.in-Some.cell) c.loop-cell.stack c.pop.new.self e c.push.ensures.items
-          (none_misses (numbers_of c.args.params.now.case).count (region_of c.in-Some.cell) (count_is c.args.params.now.case ∙ c.requires.one), rw c.low_plain-here.ensures.value at clear)
+          c.push-then-here-delta.new.self.items spent (region_of c.in-Some.cell) c.loop-cell.stack c.pop.new.self e c.push-then-here-delta.ensures.items
+          (rw (count_is c.args.params.now.case, ← c.misses.ensures) c.if-misses.false, rw c.low_plain-here.ensures.value at clear)
           (rw c.low_plain-here.ensures.value at lesser) (rw (← c.low_plain-here.ensures.value) (omega (arith, ints, c.low_plain-here.ensures.small))) old.so_far);
+      counted = omega (arith, n, old.counted);
+    }
+
+pub loop-cell-preserved-then-misses : goal.loop-cell-preserved-then-misses
+loop-cell-preserved-then-misses c =
+    let old = c.loop-cell.invariant in
+    let e = c.in-Some.ensures.some in
+    let n : length c.loop-cell.stack ≡ length c.pop.new.self + 1 = ap length e ∙ omega arith in
+    let spent = c.loop-cell.units.spent - c.args.units.now.spent in
+    let more = one_more c.args.letters.now c.loop-cell.letters c.push.new.self (2 * spent + 1 - length c.loop-cell.stack) 109 old.letters c.push.ensures.items c.push.ensures.room in
+    let count : 2 * spent + 1 - length c.loop-cell.stack + 1 ≡ 2 * spent + 1 - length c.pop.new.self = omega (arith, n, old.counted) in
+    record {
+      deep = deep_rest (region_of c.in-Some.cell) c.pop.new.self (rw e at old.deep);
+      begun = begun_rest (numbers_of c.args.params.now.case) c.args.plane.now.lam (to_z w128 (of_z w128 c.args.delta)) (region_of c.in-Some.cell) c.loop-cell.stack c.pop.new.self e old.begun;
+      low = old.low;
+      high = old.high;
+      budget = old.budget;
+      spent = old.spent;
+      letters = rw count at more;
+      so_far =
+          passes (numbers_of c.args.params.now.case) c.args.plane.now.lam _ (to_z w128 c.loop-cell.low-bits) c.args.letters.now.items c.loop-cell.letters.items
+          c.push.new.self.items spent (region_of c.in-Some.cell) c.loop-cell.stack c.pop.new.self e c.push.ensures.items
+          (rw (count_is c.args.params.now.case, ← c.misses.ensures) c.if-misses.true) old.so_far;
       counted = omega (arith, n, old.counted);
     }
 
 pub is_unit-requires : goal.is_unit-requires
 is_unit-requires c =
-    let edge : c.edge_to_halve.result ≡ 3 = c.edge_to_halve.ensures.named ∙ (rw c.requires.one (packing_named (region_of c.in-Some.cell))) in
-    omega arith
+    edge_inside c.args.params.now.case.n c.edge_to_halve-edge.result c.args.params.now.case.few c.edge_to_halve-edge.ensures.edge
 
-wide : (c : After-cell-else-is_spent-2-1) → 2 ≤ c.in-Some.cell.yhi - c.in-Some.cell.ylo
+wide : (c : After-cell-else-is_spent-2-1) → 2 ≤ edge_length (region_of c.in-Some.cell) c.edge_to_halve-edge.result
 wide c =
-    let edge : c.edge_to_halve.result ≡ 3 = c.edge_to_halve.ensures.named ∙ (rw c.requires.one (packing_named (region_of c.in-Some.cell))) in
-    let unit = rw edge at c.is_unit.ensures.unit in
-    not_one c.in-Some.cell.ylo c.in-Some.cell.yhi c.in-Some.cell.thick (λ k. let t = unit.1 k in cc)
+    not_one (edge_length (region_of c.in-Some.cell) c.edge_to_halve-edge.result) c.edge_to_halve-edge.ensures.long (λ k. let t = c.is_unit.ensures.unit.1 k in cc)
 
 pub push_halves-requires-clause-wide : goal.push_halves-requires-clause-wide
 push_halves-requires-clause-wide c = wide c
 
 pub push_halves-requires-clause-room : goal.push_halves-requires-clause-room
 push_halves-requires-clause-room c =
-    let k = narrow_halves (region_of c.in-Some.cell) c.pop.new.self (wide c) (rw c.in-Some.ensures.some at c.loop-cell.invariant.narrow) in
-    omega (arith, k.0)
+    let k = deep_room (region_of c.in-Some.cell) c.pop.new.self (rw c.in-Some.ensures.some at c.loop-cell.invariant.deep) in
+    omega (arith, k)
 
 pub loop-cell-preserved : goal.loop-cell-preserved
 loop-cell-preserved c =
     let old = c.loop-cell.invariant in
     let e = c.in-Some.ensures.some in
     let n : length c.loop-cell.stack ≡ length c.pop.new.self + 1 = ap length e ∙ omega arith in
-    let m : length c.push_halves.new.self ≡ length c.pop.new.self + 2 = ap length c.push_halves.ensures ∙ omega arith in
+    let m : length c.push_halves.new.self ≡ length c.pop.new.self + 2 = ap length c.push_halves.ensures.halves ∙ omega arith in
     let here = goal.at.loop-cell-preserved c in
     let spent = c.loop-cell.units.spent - c.args.units.now.spent in
     let next = c.spend-else-is_spent-2.ensures.spent in
-    let more = one_more c.args.letters.now c.loop-cell.letters c.push-else-is_spent-2.new.self (2 * spent + 1 - length c.loop-cell.stack) 121 old.letters
+    let more = one_more c.args.letters.now c.loop-cell.letters c.push-else-is_spent-2.new.self (2 * spent + 1 - length c.loop-cell.stack) c.edge_letter.result old.letters
     c.push-else-is_spent-2.ensures.items c.push-else-is_spent-2.ensures.room in
     let count : 2 * spent + 1 - length c.loop-cell.stack + 1 ≡ 2 * (c.spend-else-is_spent-2.new.self.spent - c.args.units.now.spent) + 1 - length c.push_halves.new.self =
     omega (arith, n, m, next, old.spent, old.counted) in
     let delta = delta_read here.Else-here-delta in
-    let narrow = narrow_halves (region_of c.in-Some.cell) c.pop.new.self (wide here.After-cell-else-is_spent-2-1) (rw e at old.narrow) in
+    let r = region_of c.in-Some.cell in
+    let edge = c.edge_to_halve-edge.result in
+    let inside = edge_inside c.args.params.now.case.n edge c.args.params.now.case.few c.edge_to_halve-edge.ensures.edge in
     record {
-      narrow = rw c.push_halves.ensures narrow.1;
+      deep = rw c.push_halves.ensures.halves
+          (deep_halves r (lower_half edge r) (upper_half edge r) c.pop.new.self c.push_halves.ensures.lower_left c.push_halves.ensures.upper_left (rw e at old.deep));
       begun = rw delta (inr (inr (root_not_clear here.Else-here-delta)));
       low = old.low;
       high = old.high;
@@ -122,12 +145,12 @@ loop-cell-preserved c =
       so_far =
           rw delta
           (halves (numbers_of c.args.params.now.case) c.args.plane.now.lam c.args.delta (to_z w128 c.loop-cell.low-bits) c.args.letters.now.items c.loop-cell.letters.items
-          c.push-else-is_spent-2.new.self.items spent (c.spend-else-is_spent-2.new.self.spent - c.args.units.now.spent) (region_of c.in-Some.cell)
-          c.loop-cell.stack c.pop.new.self c.push_halves.new.self e c.push_halves.ensures c.push-else-is_spent-2.ensures.items (
+          c.push-else-is_spent-2.new.self.items spent (c.spend-else-is_spent-2.new.self.spent - c.args.units.now.spent) edge r
+          c.loop-cell.stack c.pop.new.self c.push_halves.new.self inside e c.push_halves.ensures.halves (c.push-else-is_spent-2.ensures.items ∙ ap (λ x. c.loop-cell.letters.items ++ x ∷ []) c.edge_letter.ensures) (
             record { uncleared = cell_uncleared here.Else-here-delta; not_refuting = rw delta at c.in_default-refuting.ensures.none },
-            no_unit_edge c.args.params.now.case.n (numbers_of c.args.params.now.case).count (region_of c.in-Some.cell) c.edge_to_halve.result c.is_unit.result
-                (count_is c.args.params.now.case) c.edge_to_halve.ensures.named c.is_unit.ensures.value c.if-is_unit.false,
-            packing_halved (numbers_of c.args.params.now.case).count (region_of c.in-Some.cell) (count_is c.args.params.now.case ∙ c.requires.one),
+            no_unit_edge c.args.params.now.case.n (numbers_of c.args.params.now.case).count (region_of c.in-Some.cell) c.edge_to_halve-edge.result c.is_unit.result
+                (count_is c.args.params.now.case) c.edge_to_halve-edge.ensures.named c.is_unit.ensures.value c.if-is_unit.false,
+            edge_named c.args.params.now.case.n (numbers_of c.args.params.now.case).count r edge (count_is c.args.params.now.case) c.edge_to_halve-edge.ensures.named,
           )
           (omega (arith, next, old.spent)) (rw delta at old.so_far));
       counted = omega (arith, n, m, next, old.spent, old.counted);
@@ -173,7 +196,7 @@ pub returns-then-is_unit-clause-found : goal.returns-then-is_unit-clause-found
 returns-then-is_unit-clause-found c =
     let here = (goal.at.returns-then-is_unit-clause-found c).Else-here-delta in (
       omega (arith, ints, here_low here, c.smaller-then-is_unit.ensures.second, c.close-low-then-is_unit.ensures.low, c.requires.delta_low, c.requires.delta_high),
-      record { one_unit = rw (count_is c.args.params.now.case, ← c.edge_to_halve.ensures.named) (c.is_unit.ensures.unit.0 c.if-is_unit.true); not_clear = not_clear here },
+      record { one_unit = rw (count_is c.args.params.now.case, ← c.edge_to_halve-edge.ensures.named) (c.is_unit.ensures.unit.0 c.if-is_unit.true); not_clear = not_clear here },
     )
 
 pub returns-then-is_spent-2-clause-found : goal.returns-then-is_spent-2-clause-found
@@ -236,13 +259,13 @@ returns-then-is_unit-clause-searched c =
     let closes = rw (back c.smaller-then-is_unit.result (omega (arith, mid_small here c.smaller-then-is_unit.result mid))) at c.close-low-then-is_unit.ensures.closes in
     rw (back c.close-low-then-is_unit.result (omega (arith, c.close-low-then-is_unit.ensures.small)))
     (stops_grain (numbers_of case) c.args.plane.now.lam c.args.delta (to_z w128 c.loop-cell.low-bits) c.smaller-then-is_unit.result c.close-low-then-is_unit.result c.args.letters.now.items c.loop-cell.letters.items
-    c.close-low-then-is_unit.new.letters.items (c.loop-cell.units.spent - c.args.units.now.spent) c.in-Some.cell c.loop-cell.stack c.pop.new.self (count_is case ∙ c.requires.one)
+    c.close-low-then-is_unit.new.letters.items (c.loop-cell.units.spent - c.args.units.now.spent) c.in-Some.cell c.loop-cell.stack c.pop.new.self
     c.in-Some.ensures.some
     (record {
       same = refl;
       stuck = record { uncleared = cell_uncleared here; not_refuting = rw delta at c.in_default-refuting.ensures.none };
-      one_unit = unit_edge case.n (numbers_of case).count (region_of c.in-Some.cell) c.edge_to_halve.result c.is_unit.result
-          (count_is case) c.edge_to_halve.ensures.named c.is_unit.ensures.value c.if-is_unit.true;
+      one_unit = unit_edge case.n (numbers_of case).count (region_of c.in-Some.cell) c.edge_to_halve-edge.result c.is_unit.result
+          (count_is case) c.edge_to_halve-edge.ensures.named c.is_unit.ensures.value c.if-is_unit.true;
     })
     closes (lesser_of here _ mid) (far_below here) (rw delta at c.loop-cell.invariant.so_far))
 
@@ -254,8 +277,8 @@ returns-then-is_spent-2-clause-searched c =
     (stopped here c.smaller-then-is_spent-2.result c.close-low-then-is_spent-2.result c.close-low-then-is_spent-2.new.letters.items (c.smaller-then-is_spent-2.ensures.first, c.smaller-then-is_spent-2.ensures.second, c.smaller-then-is_spent-2.ensures.either)
     (record {
       uncleared = cell_uncleared here;
-      wants = inr (no_unit_edge case.n (numbers_of case).count (region_of c.in-Some.cell) c.edge_to_halve.result c.is_unit.result
-          (count_is case) c.edge_to_halve.ensures.named c.is_unit.ensures.value c.if-is_unit.false);
+      wants = inr (no_unit_edge case.n (numbers_of case).count (region_of c.in-Some.cell) c.edge_to_halve-edge.result c.is_unit.result
+          (count_is case) c.edge_to_halve-edge.ensures.named c.is_unit.ensures.value c.if-is_unit.false);
     }) c.close-low-then-is_spent-2.ensures.closes)
 
 pub returns-clause-searched : goal.returns-clause-searched
@@ -265,5 +288,5 @@ returns-clause-searched c =
     ended (numbers_of case) c.args.plane.now.lam c.args.delta (to_z w128 c.loop-cell.low-bits) c.args.letters.now.items c.loop-cell.letters.items c.loop-cell.letters.items
     (c.loop-cell.units.spent - c.args.units.now.spent) (c.loop-cell.units.spent - c.args.units.now.spent) c.loop-cell.stack [] (AllClear (to_z w128 c.loop-cell.low-bits)) c.in_default.ensures.none refl
     (sym (append-nil c.loop-cell.letters.items)) (omega arith)
-    (λ t before e over reached. low_clear (numbers_of case) c.args.plane.now.lam (to_z w128 c.loop-cell.low-bits) t (root_region (numbers_of case).count) before e over reached)
+    (λ t before e over reached. low_clear (numbers_of case) c.args.plane.now.lam (to_z w128 c.loop-cell.low-bits) t (root_region (numbers_of case).count) before (root_meets (numbers_of case).count (omega (arith, count_is case, case.few))) e over reached)
     (rw delta at c.loop-cell.invariant.so_far)

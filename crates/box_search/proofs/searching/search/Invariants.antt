@@ -1,14 +1,14 @@
 use Rattle.std.proofs.Common.{◌≡◌, ◌+◌, ◌-◌, ◌*◌, ◌≤◌, ◌^◌, pos, neg_ℤ, ◌≤ℤ◌, length}
 use Rattle.case_types.specs.Numbers.{numbers_of}
 use Rattle.box_search.specs.Written.{WritesSome}
-use Rattle.box_search.proofs.Narrow.{Narrows}
+use Rattle.box_search.proofs.Deep.{IsDeep}
 use Rattle.box_search.proofs.Root.{IsBegun}
 use Rattle.box_search.proofs.SoFar.{SoFar}
 use Rattle.box_search.proofs.searching.search.Given as goal
 
 abbrev pub invariant-loop-cell : goal.invariant-loop-cell
 invariant-loop-cell l = record {
-  narrow : Narrows l.stack;
+  deep : IsDeep l.stack;
   begun : IsBegun (numbers_of l.params.case) l.plane.lam l.fn.delta l.stack;
   low : neg_ℤ l.fn.delta ≤ℤ l.low;
   high : l.low ≤ℤ pos (2 ^ 107);

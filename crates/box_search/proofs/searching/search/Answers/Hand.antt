@@ -1,9 +1,9 @@
 -- The cell in hand of a search, where it isn't cleared.
-use Rattle.std.proofs.Common.{◌≡◌, ◌≤◌, ◌+◌, ◌-◌, ◌*◌, ◌^◌, length, ℕ, List, ℤ, neg_ℤ, unsigned_abs, ◌<ℤ◌, to_z, of_z, ap, ◌∙◌, arith}
+use Rattle.std.proofs.Common.{◌≡◌, ◌≤◌, ◌+◌, ◌-◌, ◌*◌, ◌^◌, length, ℕ, List, ℤ, neg_ℤ, unsigned_abs, ◌<ℤ◌, IsFalse, to_z, of_z, ap, ◌∙◌, arith}
 use Rattle.std.specs.Int.{w128}
 use Rattle.std.proofs.lemmas.Int.{ints}
 use Rattle.log_laws.proofs.Exports.{back}
-use Rattle.case_types.specs.Cells.{region_of, root_region, plain_low}
+use Rattle.case_types.specs.Cells.{region_of, root_region, plain_low, misses}
 use Rattle.case_types.specs.Numbers.{numbers_of}
 use Rattle.case_types.specs.Searches.{IsUncleared, WantsUnit}
 use Rattle.case_types.specs.Spared.{Spared}
@@ -31,9 +31,13 @@ root_not_clear c =
     root_open (numbers_of c.args.params.now.case) c.args.plane.now.lam c.args.delta (region_of c.in-Some.cell) c.loop-cell.stack c.pop.new.self
     c.in-Some.ensures.some (rw (delta_read c) at c.loop-cell.invariant.begun) (not_clear c)
 
+-- the cell holds compositions
+pub cell_meets : (c : Else-here-delta) → IsFalse (misses (numbers_of c.args.params.now.case).count (region_of c.in-Some.cell))
+cell_meets c = rw (count_is c.args.params.now.case, ← c.misses.ensures) c.if-misses.false
+
 pub cell_uncleared : (c : Else-here-delta) → IsUncleared (numbers_of c.args.params.now.case) c.args.plane.now.lam c.args.delta (region_of c.in-Some.cell)
 cell_uncleared c =
-    uncleared (numbers_of c.args.params.now.case) c.args.plane.now.lam c.args.delta (region_of c.in-Some.cell) (count_is c.args.params.now.case ∙ c.requires.one) (not_clear c)
+    uncleared (numbers_of c.args.params.now.case) c.args.plane.now.lam c.args.delta (region_of c.in-Some.cell) (cell_meets c) (not_clear c)
 
 pub far_below : (c : Else-here-delta) → plain_low (numbers_of c.args.params.now.case) c.args.plane.now.lam (region_of c.in-Some.cell) <ℤ highest
 far_below c = let h = not_clear c in omega (arith, ints, h, c.requires.delta_low)
@@ -68,6 +72,6 @@ pub stopped : (c : Else-here-delta) (mid least : ℤ) (new : List ℕ) → Mid c
     Searches (numbers_of c.args.params.now.case) c.args.plane.now.lam c.args.delta c.args.letters.now.items new (c.loop-cell.units.spent - c.args.units.now.spent) (Spent least)
 stopped c mid least new lesser cause closes =
     stops_spent (numbers_of c.args.params.now.case) c.args.plane.now.lam c.args.delta (to_z w128 c.loop-cell.low-bits) mid least c.args.letters.now.items c.loop-cell.letters.items
-    new (c.loop-cell.units.spent - c.args.units.now.spent) (region_of c.in-Some.cell) c.loop-cell.stack c.pop.new.self (count_is c.args.params.now.case ∙ c.requires.one)
+    new (c.loop-cell.units.spent - c.args.units.now.spent) (region_of c.in-Some.cell) c.loop-cell.stack c.pop.new.self
     c.in-Some.ensures.some cause (rw (back mid (omega (arith, mid_small c mid lesser))) at closes) (lesser_of c mid lesser) (far_below c)
     (rw (delta_read c) at c.loop-cell.invariant.so_far)
