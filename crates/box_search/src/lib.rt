@@ -5,6 +5,8 @@ mod found;
 mod points;
 mod searching;
 mod stack;
+#[cfg(test)]
+mod tests;
 
 pub use found::Found;
 pub use points::column_at;

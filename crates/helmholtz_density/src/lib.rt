@@ -3,6 +3,8 @@
 
 mod compositions;
 mod mixes;
+#[cfg(test)]
+mod mixtures;
 mod pulls;
 mod pushes;
 mod splits;

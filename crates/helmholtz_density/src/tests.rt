@@ -3,6 +3,7 @@
 ghost use Rattle.std.specs.Prelude.{◌≡◌, ◌≤◌};
 
 use super::*;
+use crate::compositions::moles;
 use crate::mixes::entropy;
 use case_types::{BoxX, Case, Name, Phase, Row, SLOTS};
 use std::test::Fail;
@@ -43,24 +44,22 @@ fn like_components(n: u8) -> Case
     }
 }
 
-/// The box of the phase of `n` components, if the first has a part and none has 2^104.
-fn box_of_phase(n: u8, parts: [u128; SLOTS]) -> Option<BoxX>
+/// The box of the phase of `n` components, if one of them has a part and none has 2^104.
+pub fn box_of_phase(n: u8, parts: [u128; SLOTS]) -> Option<BoxX>
     requires some { 1 ≤ n }
     requires few { n ≤ 4 }
 {
     let limit = 1 << 104;
-    if parts[0] == 0
-        || parts[0] >= limit
-        || parts[1] >= limit
-        || parts[2] >= limit
-        || parts[3] >= limit
-    {
+    if parts[0] >= limit || parts[1] >= limit || parts[2] >= limit || parts[3] >= limit {
         return None;
     }
     let phase = Phase {
         parts,
         packing: 1 << 39,
     };
+    if moles(n, &phase) == 0 {
+        return None;
+    }
     Some(phase_box(&like_components(n), &phase))
 }
 

@@ -1,4 +1,6 @@
-//! Lows of cells of two, three and four components against numbers that an independent program computed.
+//! Lows of cells of one to four components against numbers that an independent program computed.
+
+ghost use Rattle.std.specs.Prelude.{◌≡◌, ◌≤◌};
 
 use super::*;
 use crate::tests::plane_of;
@@ -24,8 +26,9 @@ struct Low {
     plain: i128,
 }
 
-/// The whole domain; half of it; cells that touch no fraction, packing 0 and packing 1; cells of one unit; and others.
-const LOWS: [Low; 24] = [
+/// The whole domain; half of it; cells that touch no fraction, packing 0 and packing 1; cells of one unit; cells under the
+/// tangent plane of their middle; and others.
+const LOWS: [Low; 40] = [
     Low {
         n: 2,
         lo: [0, 0, 0],
@@ -287,6 +290,175 @@ const LOWS: [Low; 24] = [
         energy: -1_725_486_654_185,
         plain: -1_092_234_361_548,
     },
+    Low {
+        n: 1,
+        lo: [0, 0, 0],
+        hi: [0, 0, 0],
+        packing: (807_453_851_648, 824_633_720_832),
+        potentials: [4_065_388_686_053, 0, 0, 0],
+        energy: 3_983_103_692_307,
+        plain: -82_284_993_746,
+    },
+    Low {
+        n: 1,
+        lo: [0, 0, 0],
+        hi: [0, 0, 0],
+        packing: (343_597_383_680, 377_957_122_048),
+        potentials: [3_549_642_938_305, 0, 0, 0],
+        energy: 2_374_454_211_145,
+        plain: -1_175_188_727_160,
+    },
+    Low {
+        n: 1,
+        lo: [0, 0, 0],
+        hi: [0, 0, 0],
+        packing: (1_030_792_151_040, 1_065_151_889_408),
+        potentials: [-1_058_334_123_470, 0, 0, 0],
+        energy: 6_109_386_056_074,
+        plain: 7_167_720_179_544,
+    },
+    Low {
+        n: 1,
+        lo: [0, 0, 0],
+        hi: [0, 0, 0],
+        packing: (882_335_147_640, 882_335_147_641),
+        potentials: [3_970_748_412_354, 0, 0, 0],
+        energy: 4_454_706_131_892,
+        plain: 483_957_719_538,
+    },
+    Low {
+        n: 2,
+        lo: [524_288, 0, 0],
+        hi: [540_672, 0, 0],
+        packing: (807_453_851_648, 824_633_720_832),
+        potentials: [2_879_508_118_824, -2_184_365_611_809, 0, 0],
+        energy: 108_279_003_364,
+        plain: -318_415_277_185,
+    },
+    Low {
+        n: 2,
+        lo: [0, 0, 0],
+        hi: [32_768, 0, 0],
+        packing: (343_597_383_680, 377_957_122_048),
+        potentials: [-1_121_875_621_805, 3_457_852_930_451, 0, 0],
+        energy: -907_737_140_934,
+        plain: -4_365_590_071_385,
+    },
+    Low {
+        n: 2,
+        lo: [983_040, 0, 0],
+        hi: [1_048_576, 0, 0],
+        packing: (1_030_792_151_040, 1_065_151_889_408),
+        potentials: [-1_905_662_380_927, 2_572_608_931_636, 0, 0],
+        energy: 4_698_902_693_008,
+        plain: 6_324_673_116_899,
+    },
+    Low {
+        n: 2,
+        lo: [474_999, 0, 0],
+        hi: [475_000, 0, 0],
+        packing: (815_631_136_662, 815_631_136_663),
+        potentials: [-3_287_675_568_458, -3_770_725_515_821, 0, 0],
+        energy: 118_888_683_470,
+        plain: 3_670_794_843_328,
+    },
+    Low {
+        n: 3,
+        lo: [344_064, 344_064, 0],
+        hi: [360_448, 360_448, 0],
+        packing: (807_453_851_648, 824_633_720_832),
+        potentials: [
+            1_651_656_228_669,
+            -2_837_830_698_697,
+            -14_835_962_142_708,
+            0,
+        ],
+        energy: -6_363_398_567_637,
+        plain: -1_319_412_923_969,
+    },
+    Low {
+        n: 3,
+        lo: [0, 131_072, 0],
+        hi: [32_768, 163_840, 0],
+        packing: (343_597_383_680, 377_957_122_048),
+        potentials: [1_342_022_379_694, -958_454_477_331, -285_533_187_744, 0],
+        energy: -7_879_307_814_409,
+        plain: -7_560_520_576_950,
+    },
+    Low {
+        n: 3,
+        lo: [720_896, 262_144, 0],
+        hi: [786_432, 327_680, 0],
+        packing: (1_030_792_151_040, 1_065_151_889_408),
+        potentials: [775_844_145_229, -4_318_590_590_423, -2_900_552_693_009, 0],
+        energy: -3_849_672_855_500,
+        plain: -3_351_908_316_816,
+    },
+    Low {
+        n: 3,
+        lo: [239_772, 343_304, 0],
+        hi: [239_773, 343_305, 0],
+        packing: (448_945_041_180, 448_945_041_181),
+        potentials: [-2_934_148_932_134, 71_759_495_932, -3_877_114_051_152, 0],
+        energy: -5_214_583_253_586,
+        plain: -2_845_958_437_897,
+    },
+    Low {
+        n: 4,
+        lo: [262_144, 262_144, 262_144],
+        hi: [278_528, 278_528, 278_528],
+        packing: (807_453_851_648, 824_633_720_832),
+        potentials: [
+            1_411_932_622_502,
+            -3_101_733_877_623,
+            -15_624_500_057_127,
+            2_572_000_533_850,
+        ],
+        energy: -4_683_373_231_749,
+        plain: -997_798_037_150,
+    },
+    Low {
+        n: 4,
+        lo: [0, 131_072, 131_072],
+        hi: [32_768, 163_840, 163_840],
+        packing: (343_597_383_680, 377_957_122_048),
+        potentials: [
+            -2_496_379_784_848,
+            -2_502_246_229_487,
+            720_895_587_420,
+            -3_223_860_376_294,
+        ],
+        energy: -1_584_936_101_036,
+        plain: 887_070_177_006,
+    },
+    Low {
+        n: 4,
+        lo: [458_752, 262_144, 262_144],
+        hi: [524_288, 327_680, 327_680],
+        packing: (1_030_792_151_040, 1_065_151_889_408),
+        potentials: [
+            -4_097_579_006_947,
+            -644_242_753_918,
+            -3_475_013_921_569,
+            2_205_336_802_824,
+        ],
+        energy: -7_290_508_562_454,
+        plain: -4_605_837_128_220,
+    },
+    Low {
+        n: 4,
+        lo: [208_364, 220_091, 38_293],
+        hi: [208_365, 220_092, 38_294],
+        packing: (694_995_466_254, 694_995_466_255),
+        potentials: [
+            350_791_063_794,
+            -2_867_591_210_003,
+            1_453_035_581_246,
+            -2_319_613_706_419,
+        ],
+        energy: 875_399_002_383,
+        plain: 2_641_610_947_722,
+    },
 ];
 
 /// No name.
@@ -331,37 +503,20 @@ const INTERACTIONS: [[i32; SLOTS]; SLOTS] = [
     [311, 852, 0, 0],
 ];
 
-/// Equal parts of the first of them at 300 K and 50 bar.
-fn case_of(n: u8) -> Option<Case> {
-    match n {
-        2 => Some(Case {
-            n: 2,
-            rows: ROWS,
-            k: INTERACTIONS,
-            z: [1, 1, 0, 0],
-            total: 2,
-            t: 300_000,
-            p: 5_000_000,
-        }),
-        3 => Some(Case {
-            n: 3,
-            rows: ROWS,
-            k: INTERACTIONS,
-            z: [1, 1, 1, 0],
-            total: 3,
-            t: 300_000,
-            p: 5_000_000,
-        }),
-        4 => Some(Case {
-            n: 4,
-            rows: ROWS,
-            k: INTERACTIONS,
-            z: [1, 1, 1, 1],
-            total: 4,
-            t: 300_000,
-            p: 5_000_000,
-        }),
-        _ => None,
+/// Equal parts of the first `n` of them at 300 K and 50 bar.
+fn equal_parts(n: u8) -> Case
+    requires some { 1 ≤ n }
+    requires few { n ≤ 4 }
+    ensures { result.n ≡ n }
+{
+    Case {
+        n,
+        rows: ROWS,
+        k: INTERACTIONS,
+        z: [1; SLOTS],
+        total: n as u32,
+        t: 300_000,
+        p: 5_000_000,
     }
 }
 
@@ -389,8 +544,9 @@ fn cell_of(low: &Low) -> Option<Cell> {
 #[test]
 fn lows_of_mixtures(rt: HostRuntime) -> Result<(), Fail> {
     for low in LOWS {
-        let case = case_of(low.n).ok_or("no case")?;
-        let params = params(&case).ok().ok_or("no parameters")?;
+        assert!(rt; low.n >= 1);
+        assert!(rt; low.n <= 4);
+        let params = params(&equal_parts(low.n)).ok().ok_or("no parameters")?;
         let cell = cell_of(&low).ok_or("no cell")?;
         let plane = plane_of(low.potentials).ok_or("no plane")?;
         assert!(rt; !misses(params.case.n, &cell));
