@@ -1,6 +1,6 @@
 //! What is to be flashed.
 
-ghost use Rattle.std.specs.Prelude.{ℕ, ◌≡◌, ◌≤◌, ◌^◌, IsTrue, ◌&&◌, nat_le, map, slice_index, slice_index_or, pos};
+ghost use Rattle.std.specs.Prelude.{◌≡◌, ◌≤◌, ◌^◌, IsTrue, nat_le, map, slice_index, slice_index_or, pos};
 ghost use Rattle.case_types.specs.Ranges.{is_name, are_interactions, is_critical_temperature, is_critical_pressure, is_acentric_factor};
 ghost use Rattle.log_laws.specs.Sums.{all_below, sum_below};
 

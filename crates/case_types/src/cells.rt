@@ -1,6 +1,6 @@
 //! Boxes of compositions, and cells of the search.
 
-ghost use Rattle.std.specs.Prelude.{ℕ, ◌≤◌, ◌<◌, ◌^◌, IsTrue, slice_index};
+ghost use Rattle.std.specs.Prelude.{◌≤◌, ◌<◌, ◌^◌, IsTrue, slice_index};
 ghost use Rattle.case_types.specs.Ranges.{is_each_at_most, is_each_up_to};
 ghost use Rattle.log_laws.specs.Sums.{sum_below};
 

@@ -1,6 +1,6 @@
 //! Tangent planes.
 
-ghost use Rattle.std.specs.Prelude.{ℕ, ◌^◌, IsTrue};
+ghost use Rattle.std.specs.Prelude.{◌^◌, IsTrue};
 ghost use Rattle.case_types.specs.Ranges.{is_each_below};
 
 use crate::cases::SLOTS;

@@ -1,6 +1,6 @@
 //! Quotients and products of which the potentials are made, each kept to a range. Values are in 2^-40.
 
-ghost use Rattle.std.specs.Prelude.{◌≤◌, ◌<◌, ◌^◌, ◌≤ℤ◌, pos, unsigned_abs};
+ghost use Rattle.std.specs.Prelude.{◌≤◌, ◌<◌, ◌^◌, unsigned_abs};
 
 use crate::kept::kept;
 use log_enclose::log2_lo;

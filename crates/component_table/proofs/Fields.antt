@@ -1,7 +1,7 @@
 -- The fields of a record, one at a time.
-use Rattle.std.proofs.Common.{◌≡◌, ℕ, zero, suc, ◌+◌, ◌<◌, ◌≤◌, List, [], ◌∷◌, length, get_or, drop, Bool, true, false, refl, Some, None}
+use Rattle.std.proofs.Common.{◌≡◌, ℕ, zero, suc, ◌+◌, ◌<◌, List, [], ◌∷◌, length, get_or, drop, Bool, true, false, refl, Some, None}
 use Rattle.std.specs.List.{list_all}
-use Rattle.std.proofs.lemmas.List.{drop_more, drop_all}
+use Rattle.std.proofs.lemmas.List.{drop_more}
 use Rattle.std.specs.Str.{IsUtf8, is_utf8}
 use Rattle.std.proofs.lemmas.Str.{IsUtf8-from_is_utf8}
 use Rattle.csv.specs.Records.{field_at}
@@ -26,9 +26,6 @@ all-more p fs i inside good = rw (drop_more fs i [] inside, good) refl
 
 pub all-stops : (p : List ℕ → Bool) (fs : List (List ℕ)) (i : ℕ) → i < length fs → p (get_or fs i []) ≡ false → list_all p (drop i fs) ≡ false
 all-stops p fs i inside bad = rw (drop_more fs i [] inside, bad) refl
-
-pub all-end : (p : List ℕ → Bool) (fs : List (List ℕ)) (i : ℕ) → length fs ≤ i → list_all p (drop i fs) ≡ true
-all-end p fs i end = rw (drop_all i fs end) refl
 
 -- ---- a text that isn't UTF-8 fails the test
 pub not_utf8 : (t : List ℕ) → (IsUtf8 t → ⊥) → is_utf8 t ≡ false

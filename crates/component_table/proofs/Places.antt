@@ -1,16 +1,12 @@
 -- Where a component with a name stands.
-use Rattle.std.proofs.Common.{◌≡◌, ℕ, ◌+◌, ◌<◌, ◌≤◌, List, length, get_or, drop, map, Bool, true, false, refl, ap, sym, ◌∙◌, arith}
-use Rattle.std.specs.Prelude.{Ok, Err, nat_lt}
+use Rattle.std.proofs.Common.{◌≡◌, ℕ, ◌+◌, ◌<◌, ◌≤◌, List, length, get_or, drop, map, Bool, true, false, ap, sym, ◌∙◌, arith}
 use Rattle.std.specs.List.{position_or_len}
 use Rattle.std.specs.Str.{bytes_eq}
-use Rattle.std.proofs.lemmas.Bool.{lt-ltb, le-ltb}
 use Rattle.std.proofs.lemmas.List.{drop_more, drop_all, get_or-map}
 use Rattle.case_types.specs.declared.cases.Row.{Row}
 use Rattle.case_words.specs.Names.{text_of}
-use Rattle.component_table.specs.Records.{PlainRow}
-use Rattle.component_table.specs.Tables.{has_name, index_in, known}
+use Rattle.component_table.specs.Tables.{has_name}
 use Rattle.component_table.specs.Rows.{plain_row}
-use Rattle.component_table.specs.declared.faults.TableFault.TheVariants.{UnknownName}
 
 -- ---- the first item that passes, item by item
 pub position-more : {X : Type 0} (p : X → Bool) (xs : List X) (i : ℕ) (d : X) → i < length xs → p (get_or xs i d) ≡ false
@@ -32,16 +28,3 @@ row-here comps i a name s t r inside is are tested =
     ∙ ap (λ (x : List ℕ). bytes_eq x name) (sym is)
     ∙ ap (bytes_eq s) (sym are)
     ∙ sym tested
-
--- ---- the place of a component
-pub known-not : (n : ℕ) (comps : List PlainRow) (name : List ℕ) (i : ℕ) → i ≡ index_in comps name → length comps ≤ i
-    → known n comps name ≡ Err (UnknownName n)
-known-not n comps name i is end =
-    let e : nat_lt (index_in comps name) (length comps) ≡ false = rw (← is) (le-ltb i (length comps) end) in
-    rw e refl
-
-pub known-there : (n : ℕ) (comps : List PlainRow) (name : List ℕ) (i : ℕ) → i ≡ index_in comps name → i < length comps
-    → known n comps name ≡ Ok (i + 1)
-known-there n comps name i is inside =
-    let e : nat_lt (index_in comps name) (length comps) ≡ true = rw (← is) (lt-ltb i (length comps) inside) in
-    rw (e, ← is) refl

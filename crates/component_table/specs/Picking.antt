@@ -1,5 +1,5 @@
 -- The case that a job names in a table, or the first name without a component.
-use Rattle.std.specs.Prelude.{◌≡◌, List, length, map, slice_index, Ok, Err}
+use Rattle.std.specs.Prelude.{◌≡◌, length, map, slice_index, Ok, Err}
 use Rattle.std.specs.List.{sum}
 use Rattle.case_types.specs.declared.cases.Case.{Case}
 use Rattle.case_words.specs.Jobs.{Asked}

@@ -6,7 +6,7 @@ use Rattle.std.proofs.lemmas.Int.{ints, clamps}
 use Rattle.std.proofs.Math.Nat.{mul-pos}
 use Rattle.std.proofs.Math.IntN.{*ℤ_comm}
 use Rattle.log_laws.specs.Whole.{floor_over, ceil_over, floor_div, ceil_div, positive_part}
-use Rattle.log_laws.specs.Fraction.{Fraction, IsSame, whole, sum_of, negated, difference, product_of, quotient_of}
+use Rattle.log_laws.specs.Fraction.{Fraction, sum_of, negated, difference, product_of, quotient_of}
 use Rattle.log_laws.specs.Between.{Ends, IsBetween}
 use Rattle.log_laws.proofs.Exports.{mul-le_ℤ, add-mul_ℤ, neg-mul, ≤ℤ_trans, scale_scale, scale_turned, add_above, add_below, product_low, product_high}
 use Rattle.fix_interval.specs.Interval.{ends}
@@ -21,24 +21,6 @@ IsBetween-wider v w s f l h k = record {
   is_fraction = k.is_fraction;
   above = ≤ℤ_trans (w.lo *ℤ pos f.den) (v.lo *ℤ pos f.den) (f.num *ℤ pos s) (mul-le_ℤ w.lo v.lo f.den l) k.above;
   below = ≤ℤ_trans (f.num *ℤ pos s) (v.hi *ℤ pos f.den) (w.hi *ℤ pos f.den) k.below (mul-le_ℤ v.hi w.hi f.den h);
-}
-
--- a fraction that stands for the same number
-pub IsBetween-same : (v : Ends) (s : ℕ) (f g : Fraction) → 0 < g.den → IsSame f g → IsBetween v s f → IsBetween v s g
-IsBetween-same v s f g z e h = record {
-  is_fraction = z;
-  above = le-of_mul-le_ℤ (v.lo *ℤ pos g.den) (g.num *ℤ pos s) f.den h.is_fraction
-      (rw (scales_swapped v.lo g.den f.den, scales_swapped g.num s f.den, ← e, scales_swapped f.num g.den s) (mul-le_ℤ (v.lo *ℤ pos f.den) (f.num *ℤ pos s) g.den h.above));
-  below = le-of_mul-le_ℤ (g.num *ℤ pos s) (v.hi *ℤ pos g.den) f.den h.is_fraction
-      (rw (scales_swapped v.hi g.den f.den, scales_swapped g.num s f.den, ← e, scales_swapped f.num g.den s) (mul-le_ℤ (f.num *ℤ pos s) (v.hi *ℤ pos f.den) g.den h.below));
-}
-
--- a whole number is both ends of itself
-pub IsBetween-whole : (z : ℤ) (s : ℕ) → IsBetween (ends (z *ℤ pos s) (z *ℤ pos s)) s (whole z)
-IsBetween-whole z s = record {
-  is_fraction = omega arith;
-  above = omega (arith, ints);
-  below = omega (arith, ints);
 }
 
 -- the numerator of a sum, scaled

@@ -1,6 +1,6 @@
 //! Quotients.
 
-ghost use Rattle.std.specs.Prelude.{◌≡◌, ℕ, ◌*◌, ◌<◌, ◌≤◌, ◌^◌, ℤ, pos, ◌*ℤ◌, ◌≤ℤ◌, unsigned_abs};
+ghost use Rattle.std.specs.Prelude.{◌≡◌, ℕ, ◌*◌, ◌<◌, ◌≤◌, ◌^◌, pos, ◌*ℤ◌, ◌≤ℤ◌, unsigned_abs};
 ghost use Rattle.log_laws.specs.Whole.{floor_div, ceil_div};
 ghost use Rattle.log_laws.specs.Fraction.{Fraction, quotient_of};
 ghost use Rattle.log_laws.specs.Between.{IsBetween};

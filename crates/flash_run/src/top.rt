@@ -1,6 +1,6 @@
 //! The whole program, over its words, its input and its output.
 
-ghost use Rattle.std.specs.Prelude.{◌≡◌, ◌≢◌, ◌⊎◌, ◌≤◌, ◌+◌, ℕ, true, length};
+ghost use Rattle.std.specs.Prelude.{◌≡◌, ◌≢◌, ◌⊎◌, ◌≤◌, ◌+◌, true, length};
 ghost use Rattle.case_words.specs.Views.{asked_by};
 ghost use Rattle.io_edge.specs.Causes.{CountsFault};
 ghost use Rattle.io_edge.specs.Writing.{WritesAll, WritesSome};

@@ -1,4 +1,3 @@
-pub mod Adding
 pub mod Terms
 pub mod Energy
 pub mod MixingHigh

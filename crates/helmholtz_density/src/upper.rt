@@ -1,6 +1,6 @@
 //! The energy at one packing, at most.
 
-ghost use Rattle.std.specs.Prelude.{◌≡◌, ◌≤◌, ◌<◌, ◌^◌, ◌+◌, ◌-◌, ◌*◌, pos, ◌+ℤ◌, ◌-ℤ◌, ◌*ℤ◌, unsigned_abs};
+ghost use Rattle.std.specs.Prelude.{◌≡◌, ◌≤◌, ◌<◌, ◌^◌, ◌+◌, ◌-◌, ◌+ℤ◌, ◌-ℤ◌, unsigned_abs};
 ghost use Rattle.log_laws.specs.LogSum.{AtMost, ratio};
 ghost use Rattle.log_laws.specs.Squaring.{log_up, log_down};
 ghost use Rattle.case_types.specs.Numbers.{numbers_of, enclosures_of};

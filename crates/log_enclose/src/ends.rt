@@ -4,7 +4,7 @@ ghost use Rattle.std.specs.Prelude.{◌≡◌, ◌^◌, ◌≤◌, ◌<◌, ℕ,
 ghost use Rattle.fix_interval.specs.Interval.{ends_of};
 ghost use Rattle.log_laws.specs.LogE.{log_e_ends, HoldsLogE};
 ghost use Rattle.log_laws.specs.Logarithms.{LogOfMore, LogOfLess};
-ghost use Rattle.log_laws.specs.Fraction.{Fraction, whole};
+ghost use Rattle.log_laws.specs.Fraction.{whole};
 ghost use Rattle.log_laws.specs.LogSum.{AtLeast, AtMost, times_log, ratio};
 ghost use Rattle.log_laws.specs.Squaring.{log_down, log_up, IsSmall};
 

@@ -1,6 +1,6 @@
 //! Powers of 2, nearly.
 
-ghost use Rattle.std.specs.Prelude.{◌≡◌, ◌≤◌, ◌<◌, ◌*◌, ◌+◌, ◌/◌, ◌^◌, ℕ, pos, neg_ℤ, ◌-ℤ◌, ◌*ℤ◌, ◌≤ℤ◌, ◌<ℤ◌};
+ghost use Rattle.std.specs.Prelude.{◌≡◌, ◌≤◌, ◌<◌, ◌*◌, ◌+◌, ◌/◌, ◌^◌, ℕ, pos, ◌-ℤ◌, ◌*ℤ◌};
 
 /// Nearly 2 to the power `v / 2^40`, in 2^-32: it serves as a guess alone.
 ///

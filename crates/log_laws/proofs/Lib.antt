@@ -14,6 +14,7 @@ pub mod Euler
 pub mod Tangent
 pub mod Parts
 pub mod Terms
+pub mod Adding
 pub mod Indexed
 pub mod Arguments
 pub mod LogsOfE

@@ -1,6 +1,6 @@
 //! One round: the search under a plane, and what the lists of work get.
 
-ghost use Rattle.std.specs.Prelude.{◌≡◌, ◌≤◌, ◌<◌, ◌+◌, ◌-◌, ◌^◌, ◌++◌, ◌∷◌, [], ℤ, pos, ◌≤ℤ◌, length, unsigned_abs};
+ghost use Rattle.std.specs.Prelude.{◌≡◌, ◌≤◌, ◌<◌, ◌+◌, ◌-◌, ◌^◌, ◌++◌, ◌∷◌, [], pos, ◌≤ℤ◌, length, unsigned_abs};
 ghost use Rattle.case_types.specs.Numbers.{numbers_of};
 ghost use Rattle.box_search.specs.Found.{IsFound, IsPure, IsRootOpen, low_of, units_of};
 ghost use Rattle.box_search.specs.Written.{Writes, Searches};

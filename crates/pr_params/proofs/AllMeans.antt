@@ -9,7 +9,7 @@ use Rattle.log_laws.specs.Fraction.{Fraction, IsAtMost, quotient_of}
 use Rattle.log_laws.specs.LogSum.{ratio}
 use Rattle.log_laws.specs.Sums.{sum_below, least_below, greatest_below}
 use Rattle.log_laws.specs.Whole.{positive_part, floor_div, ceil_div, ceil_quotient}
-use Rattle.log_laws.proofs.Exports.{product_pos, scale_scale, le-ceil_over, mul-le_ℤ, ≤ℤ_trans, sum_below-scaled}
+use Rattle.log_laws.proofs.Exports.{product_pos, scale_scale, le-ceil_over, mul-le_ℤ, ≤ℤ_trans, sum_below-scaled, le-greatest}
 use Rattle.case_types.specs.Bounds.{Box, one, covolume_range, attraction_low, attraction_high, ratio_low, ratio_high}
 use Rattle.case_types.specs.Divisions.{bits}
 use Rattle.case_types.specs.Numbers.{Numbers, greatest_ratio}
@@ -18,7 +18,7 @@ use Rattle.pr_params.proofs.Attracted.{by_among, among_of_between}
 use Rattle.pr_params.proofs.Mean.{ratio_high_is, ratio_low_is}
 use Rattle.pr_params.proofs.RatioEnds.{quotient_above, quotient_below}
 use Rattle.pr_params.proofs.Sized.{ends_ordered, cancelled}
-use Rattle.pr_params.proofs.Spread.{le-greatest, of_lesser, above_all}
+use Rattle.pr_params.proofs.Spread.{of_lesser, above_all}
 use Rattle.pr_params.proofs.Weighted.{IsOver, IsUnder, mean_by, mean_over, mean_under, under_greater}
 use Rattle.pr_params.proofs.CovolumeRange.{natural_is, over_end, under_end, high_of, AreInBox, range_holds, HasLeastParts}
 use Rattle.pr_params.proofs.AttractionRange.{shared_down, shared_up, shared_below, shared_down_positive, shared_up_positive, mean_above, mean_below}

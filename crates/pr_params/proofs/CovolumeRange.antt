@@ -8,13 +8,13 @@ use Rattle.log_laws.specs.Between.{Ends, IsBetween}
 use Rattle.log_laws.specs.Fraction.{Fraction, whole}
 use Rattle.log_laws.specs.Sums.{sum_below, int_sum_below, least_below, greatest_below}
 use Rattle.log_laws.specs.Whole.{positive_part, floor_div, ceil_div}
-use Rattle.log_laws.proofs.Exports.{mul-le_ℤ, add-mul_ℤ, floor_over-le, le-ceil_over, scale_scale, scale_turned, ≤ℤ_trans, sum_below-scaled_same}
+use Rattle.log_laws.proofs.Exports.{mul-le_ℤ, add-mul_ℤ, floor_over-le, le-ceil_over, scale_scale, scale_turned, ≤ℤ_trans, sum_below-scaled_same, least-le, le-greatest}
 use Rattle.case_types.specs.Bounds.{Box, one, covolume_range, low_fraction, high_fraction}
 use Rattle.case_types.specs.Numbers.{Numbers}
 use Rattle.case_types.specs.Tables.{ends_at}
 use Rattle.pr_params.proofs.Sized.{cancelled, ends_ordered}
 use Rattle.pr_params.proofs.Weighted.{IsOver, IsUnder, mean_by, mean_over, mean_under, over_less, under_greater}
-use Rattle.pr_params.proofs.Spread.{least-le, le-greatest, of_lesser, of_greater, below_all, above_all, corner_least, corner_greatest}
+use Rattle.pr_params.proofs.Spread.{of_lesser, of_greater, below_all, above_all, corner_least, corner_greatest}
 
 -- ---- ends that aren't negative
 pub natural_is : (z : ℤ) → pos 0 ≤ℤ z → z ≡ pos (positive_part z)

@@ -1,5 +1,3 @@
-pub mod One
-pub mod Lift
 pub mod Component
 pub mod Sizes
 pub mod Alpha

@@ -1,12 +1,10 @@
 -- The mean attraction over the mean co-volume by natural numbers.
-use Rattle.std.proofs.Common.{◌≡◌, ℕ, ◌*◌, ◌/◌, ◌^◌, ◌<◌, pos, refl, ap}
+use Rattle.std.proofs.Common.{◌≡◌, ℕ, ◌*◌, ◌/◌, ◌^◌, ◌<◌, pos, refl}
 use Rattle.std.specs.Int.{int_min}
 use Rattle.log_laws.specs.Whole.{ceil_quotient}
 use Rattle.log_laws.proofs.Exports.{ceil_over-pos}
-use Rattle.case_types.specs.declared.cases.Case.{Case}
 use Rattle.case_types.specs.Bounds.{Box, covolume_range, attraction_low, attraction_high, ratio_low, ratio_high}
-use Rattle.case_types.specs.Numbers.{Numbers, numbers_of}
-use Rattle.pr_params.proofs.One.{numbers_one}
+use Rattle.case_types.specs.Numbers.{Numbers}
 
 -- the ratio at most from natural numbers
 pub ratio_high_is : (p : Numbers) (x : Box) (m b : ℕ) → 0 < b → attraction_high p x ≡ pos m → (covolume_range p x).lo ≡ pos b →
@@ -19,7 +17,3 @@ pub ratio_low_is : (p : Numbers) (x : Box) (m b : ℕ) → attraction_low p x �
     ratio_low p x ≡ pos (m * 2 ^ 47 / b)
 unfolding ratio_low
 ratio_low_is p x m b e g = rw (e, g) refl
-
--- there is one component
-pub count_is : (c : Case) → c.n ≡ 1 → (numbers_of c).count ≡ 1
-count_is c h = ap (λ (q : Numbers). q.count) (numbers_one c h)

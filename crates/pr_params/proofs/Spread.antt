@@ -1,34 +1,15 @@
 -- Whole parts that lie between ends of a box, and the sums that bound their means.
-use Rattle.std.proofs.Common.{◌≡◌, ℕ, zero, suc, ◌+◌, ◌*◌, ◌<◌, ◌≤◌, inl, inr, refl, arith, ℤ, pos, negsuc, ◌+ℤ◌, ◌*ℤ◌, ◌≤ℤ◌, ◌<ℤ◌, Bool, true, false, cond, ◌^◌, unsigned_abs, to_z, of_z, lit<}
+use Rattle.std.proofs.Common.{◌≡◌, ℕ, zero, suc, ◌+◌, ◌*◌, ◌<◌, ◌≤◌, refl, arith, ℤ, pos, negsuc, ◌+ℤ◌, ◌*ℤ◌, ◌≤ℤ◌, ◌<ℤ◌, Bool, true, false, cond, ◌^◌, unsigned_abs, to_z, of_z, lit<}
 use Rattle.std.specs.Prelude.{int_lt}
 use Rattle.std.specs.Int.{int_min, int_max, w128}
-use Rattle.std.proofs.lemmas.Bool.{cases_lt}
 use Rattle.std.proofs.lemmas.Int.{ints, clamps}
 use Rattle.std.proofs.Math.Nat.{mul-le-mul_left, mul-le-mul_right, div-le_of_le-mul}
-use Rattle.log_laws.specs.Sums.{sum_below, int_sum_below, least_below, greatest_below}
-use Rattle.log_laws.proofs.Exports.{up-mul, down-mul, mul-le_ℤ, mul-add_ℤ, scale_scale, ≤ℤ_trans, back, ceil_over-pos}
+use Rattle.log_laws.specs.Sums.{sum_below, int_sum_below}
+use Rattle.log_laws.proofs.Exports.{up-mul, down-mul, mul-le_ℤ, mul-add_ℤ, scale_scale, ≤ℤ_trans, back, ceil_over-pos, sum-more}
 use Rattle.log_laws.specs.Whole.{floor_div, ceil_div, ceil_quotient}
 use Rattle.pr_params.proofs.Sizes.{ceiling_at_most}
 
--- ---- least and greatest
-pub least-le : (n i : ℕ) (f : ℕ → ℤ) (first : ℤ) → i < n → least_below n f first ≤ℤ f i
-unfolding least_below
-least-le zero i f first h = absurd (omega (arith, h))
-least-le (suc n) i f first h =
-    elim (cases_lt i n) [
-      | inl l ↦ let e = least-le n i f first l in omega (arith, ints, clamps, e)
-      | inr g ↦ let e : i ≡ n = omega (arith, g, h) in rw e (omega (arith, ints, clamps))
-    ]
-
-pub le-greatest : (n i : ℕ) (f : ℕ → ℤ) (first : ℤ) → i < n → f i ≤ℤ greatest_below n f first
-unfolding greatest_below
-le-greatest zero i f first h = absurd (omega (arith, h))
-le-greatest (suc n) i f first h =
-    elim (cases_lt i n) [
-      | inl l ↦ let e = le-greatest n i f first l in omega (arith, ints, clamps, e)
-      | inr g ↦ let e : i ≡ n = omega (arith, g, h) in rw e (omega (arith, ints, clamps))
-    ]
-
+-- ---- the lesser and the greater
 -- a fact of two numbers holds of the lesser, and of the greater
 pub of_lesser : (P : ℤ → Type 0) (a b : ℤ) → P a → P b → P (int_min a b)
 of_lesser P a b pa pb = either (int_lt b a)
@@ -103,31 +84,7 @@ pub greatest_from_zero : (t : ℤ) (a b : ℕ) → a ≤ b → pos 0 ≤ℤ t �
 greatest_from_zero (pos n) a b h k = let e = mul-le-mul_left n h in omega (arith, ints, clamps, e)
 greatest_from_zero (negsuc n) a b h k = absurd (omega (arith, ints, k))
 
--- ---- step by step
-pub least-none : (f : ℕ → ℤ) (first : ℤ) → least_below 0 f first ≡ first
-unfolding least_below
-least-none f first = refl
-
-pub least-more : (n : ℕ) (f : ℕ → ℤ) (first : ℤ) → least_below (n + 1) f first ≡ int_min (least_below n f first) (f n)
-unfolding least_below
-least-more n f first = let e : n + 1 ≡ suc n = omega arith in rw e refl
-
-pub greatest-none : (f : ℕ → ℤ) (first : ℤ) → greatest_below 0 f first ≡ first
-unfolding greatest_below
-greatest-none f first = refl
-
-pub greatest-more : (n : ℕ) (f : ℕ → ℤ) (first : ℤ) → greatest_below (n + 1) f first ≡ int_max (greatest_below n f first) (f n)
-unfolding greatest_below
-greatest-more n f first = let e : n + 1 ≡ suc n = omega arith in rw e refl
-
-pub sum-none : (f : ℕ → ℤ) → int_sum_below 0 f ≡ pos 0
-unfolding int_sum_below
-sum-none f = refl
-
-pub sum-more : (n : ℕ) (f : ℕ → ℤ) → int_sum_below (n + 1) f ≡ int_sum_below n f +ℤ f n
-unfolding int_sum_below
-sum-more n f = let e : n + 1 ≡ suc n = omega arith in rw e refl
-
+-- ---- in 128 bits
 -- one number more in a sum that is kept in 128 bits
 pub grown : (i : ℕ) (f : ℕ → ℤ) (sum share : ℤ) → i < 4 → unsigned_abs sum ≤ i * 2 ^ 103 → unsigned_abs share ≤ 2 ^ 103 → sum ≡ int_sum_below i f → share ≡ f i
     → (to_z w128 (of_z w128 (sum +ℤ to_z w128 (of_z w128 share))) ≡ int_sum_below (i + 1) f)

@@ -1,6 +1,6 @@
 //! The mean attraction over a box.
 
-ghost use Rattle.std.specs.Prelude.{◌≡◌, ◌≤◌, ◌<◌, ◌^◌, pos, ◌*ℤ◌, ◌≤ℤ◌, unsigned_abs};
+ghost use Rattle.std.specs.Prelude.{◌≡◌, ◌≤◌, ◌<◌, ◌^◌, pos, ◌*ℤ◌, ◌≤ℤ◌};
 ghost use Rattle.log_laws.specs.Sums.{int_sum_below};
 ghost use Rattle.log_laws.specs.Whole.{floor_div, ceil_div};
 ghost use Rattle.case_types.specs.Numbers.{numbers_of};

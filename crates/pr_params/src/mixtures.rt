@@ -1,6 +1,6 @@
 //! Parameters of mixtures against numbers that an independent program computed.
 
-ghost use Rattle.std.specs.Prelude.{◌≡◌, ◌<◌, IfSome, IsTrue, slice_index, slice_index_or, map, pos};
+ghost use Rattle.std.specs.Prelude.{◌<◌, IfSome, IsTrue, slice_index, slice_index_or, map, pos};
 ghost use Rattle.case_types.specs.Ranges.{are_interactions, is_interaction, is_critical_temperature, is_critical_pressure, is_acentric_factor};
 ghost use Rattle.log_laws.specs.Sums.{all_below};
 

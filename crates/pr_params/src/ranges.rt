@@ -1,6 +1,6 @@
 //! The mean co-volume and the mean attraction over it, at every composition of a box.
 
-ghost use Rattle.std.specs.Prelude.{◌≡◌, ◌≤◌, ◌<◌, ◌^◌, ◌+◌, ◌*◌, ◌/◌, pos, ◌*ℤ◌, ◌≤ℤ◌, slice_index};
+ghost use Rattle.std.specs.Prelude.{◌≡◌, ◌≤◌, ◌<◌, ◌^◌, ◌+◌, ◌*◌, ◌/◌, pos, ◌*ℤ◌, ◌≤ℤ◌};
 ghost use Rattle.log_laws.specs.Whole.{floor_div, ceil_div, ceil_quotient};
 ghost use Rattle.fix_interval.specs.Interval.{ends_of};
 ghost use Rattle.log_laws.specs.Between.{IsBetween};

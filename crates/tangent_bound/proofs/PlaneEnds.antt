@@ -1,13 +1,12 @@
 -- The upper end of a plane over a box from its terms, how large it is, and the low of a cell.
-use Rattle.std.proofs.Common.{◌≡◌, IsTrue, inl, inr, nat_lt, ℕ, zero, suc, ◌+◌, ◌-◌, ◌<◌, ◌≤◌, ◌^◌, ℤ, pos, negsuc, neg_ℤ, ◌+ℤ◌, ◌-ℤ◌, ◌*ℤ◌, ◌≤ℤ◌, refl, sym, ap, ◌∙◌, arith, lit<, unsigned_abs, slice_index, List}
+use Rattle.std.proofs.Common.{◌≡◌, IsTrue, nat_lt, ℕ, zero, suc, ◌+◌, ◌-◌, ◌<◌, ◌≤◌, ◌^◌, ℤ, pos, negsuc, neg_ℤ, ◌+ℤ◌, ◌-ℤ◌, ◌*ℤ◌, ◌≤ℤ◌, refl, sym, ap, ◌∙◌, arith, lit<, unsigned_abs, slice_index, List}
 use Rattle.std.specs.Int.{int_min, int_max}
 use Rattle.std.proofs.Math.Nat.{mul-le-mul_left}
-use Rattle.std.proofs.lemmas.Bool.{cases_lt}
 use Rattle.std.proofs.lemmas.Int.{ints, clamps}
 use borrow.Author.Differences.{at_most_in, product_is}
 use borrow.Author.Tests.{ltb-true}
 use Rattle.log_laws.specs.Whole.{ceil_div}
-use Rattle.log_laws.proofs.Exports.{add-mul_ℤ, mul-add_ℤ, mul-le_ℤ, le-ceil_over, ≤ℤ_trans}
+use Rattle.log_laws.proofs.Exports.{add-mul_ℤ, mul-add_ℤ, mul-le_ℤ, le-ceil_over, ≤ℤ_trans, sum_below-fewer}
 use Rattle.case_types.specs.Bounds.{Box, one, energy_low, plane_high}
 use Rattle.case_types.specs.Cells.{Region, box_of_region, plain_low}
 use Rattle.case_types.specs.Numbers.{Numbers}
@@ -87,14 +86,6 @@ pub each_small : (n : ℕ) (lam : List ℤ) (limit : ℕ) → IsTrue (is_each_be
 each_small n lam limit h i l =
     ltb-true (unsigned_abs (potential lam i)) limit (all_below_at n (λ i. nat_lt (unsigned_abs (potential lam i)) limit) i l h)
 
--- fewer terms add up to less
-fewer_less : (m n : ℕ) (p : ℕ → ℕ) → m ≤ n → sum_below m p ≤ sum_below n p
-fewer_less m zero p h = let e : m ≡ 0 = omega arith in rw e (omega arith)
-fewer_less m (suc n) p h = elim (cases_lt n m) [
-  | inl l ↦ let e : m ≡ suc n = omega (arith, h, l) in rw e (omega arith)
-  | inr g ↦ let q = fewer_less m n p g in omega (arith, q)
-]
-
 -- a plane of small potentials is small over a box whose least fractions add up to at most 1
 pub plane_small : (n : ℕ) (lam : List ℤ) (x : Box) (g c : ℤ) → 1 ≤ n → n ≤ 4 → IsTrue (is_each_below 4 lam (2 ^ 80)) → sum_below 4 (slice_index x.lo) ≤ one →
     unsigned_abs g < 2 ^ 80 →
@@ -102,7 +93,7 @@ pub plane_small : (n : ℕ) (lam : List ℤ) (x : Box) (g c : ℤ) → 1 ≤ n �
 plane_small n lam x g c some few small whole most e =
     let each : (i : ℕ) → i < 4 → unsigned_abs (potential lam i) ≤ 2 ^ 80 - 1 = λ i l. let q = each_small 4 lam (2 ^ 80) small i l in omega (arith, q) in
     let least = plane_least (n - 1) (potential lam) (potential lam (n - 1)) (slice_index x.lo) (slice_index x.hi) (2 ^ 80 - 1)
-    (λ i l. each i (omega (arith, l, few))) (each (n - 1) (omega (arith, some, few))) (let q = fewer_less (n - 1) 4 (slice_index x.lo) (omega (arith, few)) in omega (arith, q, whole)) in
+    (λ i l. each i (omega (arith, l, few))) (each (n - 1) (omega (arith, some, few))) (let q = sum_below-fewer (n - 1) 4 (slice_index x.lo) (omega (arith, few)) in omega (arith, q, whole)) in
     lesser g c most (rw (← e) at least)
   where
     lesser : (g c : ℤ) → unsigned_abs g < 2 ^ 80 → neg_ℤ (pos (2 ^ 80 - 1)) ≤ℤ c → unsigned_abs (int_min g c) < 2 ^ 80

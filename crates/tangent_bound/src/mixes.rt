@@ -1,7 +1,6 @@
 //! The mixing terms, at least.
 
 ghost use Rattle.std.specs.Prelude.{◌≡◌, ◌≤◌, ◌<◌, ◌^◌, pos, ◌*◌, ◌-ℤ◌, ◌*ℤ◌, unsigned_abs, slice_index};
-ghost use Rattle.std.specs.Int.{int_min};
 ghost use Rattle.log_laws.specs.Sums.{int_sum_below};
 ghost use Rattle.log_laws.specs.Whole.{floor_div};
 ghost use Rattle.case_types.specs.Numbers.{numbers_of};

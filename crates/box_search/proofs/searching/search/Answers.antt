@@ -1,22 +1,19 @@
 mod Hand
-use Rattle.std.proofs.Common.{◌≡◌, ◌≤◌, ◌+◌, ◌-◌, ◌*◌, ◌^◌, [], ◌∷◌, ◌++◌, length, ℕ, List, ℤ, pos, neg_ℤ, unsigned_abs, ◌<ℤ◌, to_z, of_z, ◌≤ℤ◌, ap, sym, refl, ◌∙◌, inl, inr, arith}
+use Rattle.std.proofs.Common.{◌≡◌, ◌≤◌, ◌+◌, ◌-◌, ◌*◌, [], ◌∷◌, ◌++◌, length, neg_ℤ, to_z, of_z, ◌≤ℤ◌, ap, sym, refl, ◌∙◌, inl, inr, arith}
 use Rattle.std.specs.Int.{w128}
 use Rattle.std.proofs.lemmas.Int.{ints}
 use Rattle.std.proofs.lemmas.List.{append-nil}
 use Rattle.log_laws.proofs.Exports.{back}
-use Rattle.case_types.specs.Cells.{region_of, root_region, lower_half, upper_half, edge_length, plain_low}
+use Rattle.case_types.specs.Cells.{region_of, root_region, lower_half, upper_half, edge_length}
 use Rattle.case_types.specs.Columns.{point_of}
 use Rattle.case_types.specs.Numbers.{numbers_of}
-use Rattle.case_types.specs.Searches.{IsUncleared, WantsUnit}
-use Rattle.case_types.specs.Spared.{Spared}
-use Rattle.box_search.specs.declared.found.Found.TheVariants.{AllClear, Refuted, Spent}
-use Rattle.box_search.specs.Written.{Writes, WritesSome, Closes, Searches}
-use Rattle.box_search.proofs.Letters.{no_more, one_more, then_more, writes}
+use Rattle.box_search.specs.declared.found.Found.TheVariants.{AllClear, Refuted}
+use Rattle.box_search.proofs.Letters.{no_more, one_more, writes}
 use Rattle.box_search.proofs.Deep.{deep_root, deep_rest, deep_room, deep_halves}
 use Rattle.box_search.proofs.Pure.{count_is, not_one}
-use Rattle.box_search.proofs.Root.{begun_rest, root_open}
+use Rattle.box_search.proofs.Root.{begun_rest}
 use Rattle.box_search.proofs.Causes.{middle_refutes, uncleared, cut_off, unit_edge, no_unit_edge, edge_named, edge_inside}
-use Rattle.box_search.proofs.SoFar.{IsLesser, lesser_small, highest, root_meets, begins, passes, stands, halves, ended, stops_spent, stops_grain, low_clear}
+use Rattle.box_search.proofs.SoFar.{IsLesser, root_meets, begins, passes, stands, halves, ended, stops_grain, low_clear}
 use Rattle.box_search.proofs.searching.search.Answers.Hand.{Mid, here_low, delta_read, not_clear, root_not_clear, cell_uncleared, far_below, lesser_of, mid_small, stopped_letters, stopped}
 use Rattle.box_search.proofs.searching.search.Goals as goal
 use Rattle.box_search.proofs.searching.search.Goals.{After-cell-else-is_spent-2-1}

@@ -3,13 +3,13 @@ use Rattle.std.specs.Int.{w128}
 use Rattle.std.proofs.lemmas.Int.{ints}
 use Rattle.log_laws.specs.Sums.{int_sum_below}
 use Rattle.log_laws.specs.Whole.{floor_div}
-use Rattle.log_laws.proofs.Exports.{back}
+use Rattle.log_laws.proofs.Exports.{back, sum-none}
 use Rattle.case_types.specs.Bounds.{low_fraction}
 use Rattle.case_types.specs.Numbers.{numbers_of}
 use Rattle.case_types.specs.Tables.{ends_of_pair}
 use Rattle.pr_params.specs.Boxes.{box_of}
 use Rattle.pr_params.proofs.Sized.{count_of, fraction_a}
-use Rattle.pr_params.proofs.Spread.{sum-none, added, share_at_most, floor_sizes}
+use Rattle.pr_params.proofs.Spread.{added, share_at_most, floor_sizes}
 use Rattle.pr_params.proofs.attraction_means.attraction_low.Goals as goal
 use Rattle.pr_params.proofs.attraction_means.attraction_low.Goals.{After-floored}
 

@@ -4,13 +4,13 @@ use Rattle.std.proofs.lemmas.Int.{ints}
 use Rattle.log_laws.specs.Between.{Ends}
 use Rattle.log_laws.specs.Sums.{int_sum_below}
 use Rattle.log_laws.specs.Whole.{ceil_div}
-use Rattle.log_laws.proofs.Exports.{back}
+use Rattle.log_laws.proofs.Exports.{back, sum-none}
 use Rattle.case_types.specs.Bounds.{high_fraction}
 use Rattle.case_types.specs.Numbers.{numbers_of}
 use Rattle.case_types.specs.Tables.{ends_of_pair}
 use Rattle.pr_params.specs.Boxes.{box_of}
 use Rattle.pr_params.proofs.Sized.{fraction_b}
-use Rattle.pr_params.proofs.Spread.{sum-none, added, share_at_most, ceil_sizes}
+use Rattle.pr_params.proofs.Spread.{added, share_at_most, ceil_sizes}
 use Rattle.pr_params.proofs.attraction_means.high_row.Goals as goal
 use Rattle.pr_params.proofs.attraction_means.high_row.Goals.{After-raised}
 

@@ -3,6 +3,7 @@ use Rattle.std.specs.Int.{int_min}
 use Rattle.std.specs.Int.{w128}
 use Rattle.log_laws.specs.Between.{Ends}
 use Rattle.log_laws.specs.Sums.{int_sum_below}
+use Rattle.log_laws.proofs.Exports.{sum-none}
 use Rattle.case_types.specs.Bounds.{low_fraction, high_fraction}
 use Rattle.case_types.specs.Numbers.{numbers_of}
 use Rattle.case_types.specs.Tables.{ends_at}
@@ -10,7 +11,7 @@ use Rattle.pr_params.specs.Boxes.{box_of}
 use Rattle.case_types.specs.Ranges.{is_each_up_to}
 use Rattle.pr_params.proofs.Sized.{each_up_to, each_at_most}
 use Rattle.pr_params.proofs.Signed.{difference_read}
-use Rattle.pr_params.proofs.Spread.{sum-none, grown}
+use Rattle.pr_params.proofs.Spread.{grown}
 use Rattle.pr_params.proofs.covolume_means.low_rises.Goals as goal
 
 pub loop-i-init : goal.loop-i-init

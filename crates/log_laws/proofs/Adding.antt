@@ -1,0 +1,84 @@
+-- Sums, least and greatest values below a number, as a loop makes them.
+use Rattle.std.proofs.Common.{◌≡◌, ℕ, zero, suc, ◌+◌, ◌^◌, ◌<◌, ◌≤◌, ℤ, pos, ◌+ℤ◌, ◌≤ℤ◌, unsigned_abs, refl, arith, add-one, to_z, of_z, inl, inr}
+use Rattle.std.specs.Int.{w128, int_min, int_max}
+use Rattle.std.proofs.lemmas.Bool.{cases_lt}
+use Rattle.std.proofs.lemmas.Int.{ints, clamps}
+use Rattle.log_laws.specs.Sums.{sum_below, int_sum_below, least_below, greatest_below}
+
+-- ---- sums of natural numbers
+pub sum_below-more : (n : ℕ) (f : ℕ → ℕ) → sum_below (n + 1) f ≡ sum_below n f + f n
+sum_below-more n f = rw (add-one n) refl
+
+-- fewer terms add up to no more
+pub sum_below-fewer : (k n : ℕ) (f : ℕ → ℕ) → k ≤ n → sum_below k f ≤ sum_below n f
+sum_below-fewer k zero f h = let e : k ≡ 0 = omega (arith, h) in rw e (omega arith)
+sum_below-fewer k (suc n) f h =
+    elim (cases_lt k (suc n)) [
+      | inl less ↦ let l = sum_below-fewer k n f (omega (arith, less)) in omega (arith, l)
+      | inr last ↦ let e : k ≡ suc n = omega (arith, h, last) in rw e (omega arith)
+    ]
+
+-- ---- sums of integers
+pub sum-none : (f : ℕ → ℤ) → int_sum_below 0 f ≡ pos 0
+unfolding int_sum_below
+sum-none f = refl
+
+pub sum-more : (n : ℕ) (f : ℕ → ℤ) → int_sum_below (n + 1) f ≡ int_sum_below n f +ℤ f n
+unfolding int_sum_below
+sum-more n f = rw (add-one n) refl
+
+-- a sum so far and the next term
+pub sum-next : (n : ℕ) (f : ℕ → ℤ) (s t : ℤ) → s ≡ int_sum_below n f → t ≡ f n → s +ℤ t ≡ int_sum_below (n + 1) f
+sum-next n f s t e g = rw (e, g, sum-more n f) refl
+
+-- a sum of numbers that leave room is read back as it is
+pub sum-read : (a b : ℤ) → unsigned_abs a < 2 ^ 126 → unsigned_abs b < 2 ^ 126 → to_z w128 (of_z w128 (a +ℤ to_z w128 (of_z w128 b))) ≡ a +ℤ b
+sum-read a b h g = omega (arith, ints, h, g)
+
+-- ---- least and greatest values
+pub least-none : (f : ℕ → ℤ) (first : ℤ) → least_below 0 f first ≡ first
+unfolding least_below
+least-none f first = refl
+
+pub least-more : (n : ℕ) (f : ℕ → ℤ) (first : ℤ) → least_below (n + 1) f first ≡ int_min (least_below n f first) (f n)
+unfolding least_below
+least-more n f first = rw (add-one n) refl
+
+pub greatest-none : (f : ℕ → ℤ) (first : ℤ) → greatest_below 0 f first ≡ first
+unfolding greatest_below
+greatest-none f first = refl
+
+pub greatest-more : (n : ℕ) (f : ℕ → ℤ) (first : ℤ) → greatest_below (n + 1) f first ≡ int_max (greatest_below n f first) (f n)
+unfolding greatest_below
+greatest-more n f first = rw (add-one n) refl
+
+-- a greatest value so far and the next number
+pub greatest-next : (n : ℕ) (f : ℕ → ℤ) (first g z : ℤ) → g ≡ greatest_below n f first → z ≡ f n → int_max g z ≡ greatest_below (n + 1) f first
+greatest-next n f first g z e h = rw (e, h, greatest-more n f first) refl
+
+-- of one number
+pub greatest-first : (f : ℕ → ℤ) → f 0 ≡ greatest_below 1 f (f 0)
+unfolding greatest_below
+greatest-first f = once (f 0)
+  where
+    once : (z : ℤ) → z ≡ int_max z z
+    once z = omega (arith, ints, clamps)
+
+-- each number lies between the least and the greatest
+pub least-le : (n i : ℕ) (f : ℕ → ℤ) (first : ℤ) → i < n → least_below n f first ≤ℤ f i
+unfolding least_below
+least-le zero i f first h = absurd (omega (arith, h))
+least-le (suc n) i f first h =
+    elim (cases_lt i n) [
+      | inl l ↦ let e = least-le n i f first l in omega (arith, ints, clamps, e)
+      | inr g ↦ let e : i ≡ n = omega (arith, g, h) in rw e (omega (arith, ints, clamps))
+    ]
+
+pub le-greatest : (n i : ℕ) (f : ℕ → ℤ) (first : ℤ) → i < n → f i ≤ℤ greatest_below n f first
+unfolding greatest_below
+le-greatest zero i f first h = absurd (omega (arith, h))
+le-greatest (suc n) i f first h =
+    elim (cases_lt i n) [
+      | inl l ↦ let e = le-greatest n i f first l in omega (arith, ints, clamps, e)
+      | inr g ↦ let e : i ≡ n = omega (arith, g, h) in rw e (omega (arith, ints, clamps))
+    ]
