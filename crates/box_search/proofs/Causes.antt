@@ -1,5 +1,6 @@
 -- Why a cell has its letter, and why a search ends at it.
 use Rattle.std.proofs.Common.{◌≡◌, ℕ, zero, suc, slice_index, ◌∙◌, ◌+◌, ◌/◌, ◌^◌, ◌≤◌, ◌<◌, ◌-◌, ◌⊎◌, inl, inr, refl, ◌||◌, nat_lt, ◌==◌, Bool, true, false, if◌then◌else◌, List, Some, None, ℤ, neg_ℤ, ◌<ℤ◌, unsigned_abs, IsTrue, IsFalse, ap, arith}
+use Rattle.std.proofs.lemmas.Bool.{cases_lt}
 use Rattle.std.proofs.lemmas.Int.{ints}
 use Rattle.case_types.specs.declared.rounds.Column.{Column}
 use Rattle.case_types.specs.Bases.{pure_composition}
@@ -72,6 +73,14 @@ unit_edge n k r edge b e f g h = rw (e, ← f, ← g) h
 
 pub no_unit_edge : (n k : ℕ) (r : Region) (edge : ℕ) (b : Bool) → k ≡ n → edge ≡ edge_to_halve n r → b ≡ is_unit r edge → b ≡ false → HasUnitEdge k r → ⊥
 no_unit_edge n k r edge b e f g wide h = let t : IsTrue b = rw (e, ← f, ← g) at h in cc
+
+-- an edge that isn't one unit has two at least
+pub wide_edge : (length : ℕ) → 1 ≤ length → (length ≡ 1 → ⊥) → 2 ≤ length
+wide_edge length h n =
+    elim (cases_lt length 2) [
+      | inl less ↦ absurd (n (omega (arith, h, less)))
+      | inr more ↦ more
+    ]
 
 -- the edge that is halved, by the numbers of the case
 pub edge_named : (n k : ℕ) (r : Region) (edge : ℕ) → k ≡ n → edge ≡ edge_to_halve n r → edge ≡ edge_to_halve k r

@@ -1,3 +1,5 @@
+//! A sink in memory.
+
 ghost use Rattle.std.specs.Prelude.{◌≡◌, ◌<◌, ◌≤◌, ◌+◌, ◌^◌, ◌↔◌, ◌⊎◌, ℕ, Some, [], false, length, vec_len, vec_capacity, IfOk};
 ghost use Rattle.io_edge.specs.Bytes.{PutsOnce, put_failed};
 ghost use Rattle.io_edge.specs.InMemory.{SinkState, next_call, IsDue, appended_count};

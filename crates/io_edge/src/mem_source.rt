@@ -1,3 +1,5 @@
+//! A source in memory.
+
 ghost use Rattle.std.specs.Prelude.{◌≡◌, ◌<◌, ◌≤◌, ◌^◌, ◌↔◌, ℕ, Some, false, take, drop, length, vec_len};
 ghost use Rattle.io_edge.specs.Bytes.{TakesOnce, take_failed};
 ghost use Rattle.io_edge.specs.InMemory.{SourceState, next_call, IsDue, given_count};

@@ -1,3 +1,5 @@
+//! Reading a source to its end.
+
 ghost use Rattle.std.specs.Prelude.{◌≡◌, ◌<◌, ◌^◌, IfOk, IfErr, true};
 ghost use Rattle.io_edge.specs.Reading.{ReadsAll, StopsReading};
 

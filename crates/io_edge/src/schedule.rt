@@ -1,3 +1,5 @@
+//! Which calls of an end in memory fail.
+
 ghost use Rattle.std.specs.Prelude.{◌≡◌, ◌↔◌, IsTrue, Contains};
 ghost use Rattle.io_edge.specs.InMemory.{next_call};
 

@@ -1,3 +1,5 @@
+//! The readers and the writers of `std` as sources and sinks.
+
 ghost use Rattle.std.specs.Prelude.{◌≡◌, None, false};
 ghost use Rattle.std.specs.Io.{WritesAtMost};
 

@@ -1,3 +1,5 @@
+//! The count of faults of an end.
+
 ghost use Rattle.std.specs.Prelude.{◌≡◌, ◌+◌, ◌-◌, ◌^◌, ◌<◌, min, true, false};
 
 /// How many calls failed, and whether the last one did.

@@ -1,3 +1,5 @@
+//! Ends in memory that fail where they are to, and whole texts through them.
+
 ghost use Rattle.std.specs.Prelude.{◌<◌};
 
 use super::*;

@@ -1,3 +1,5 @@
+//! Writing a whole text to a sink.
+
 ghost use Rattle.std.specs.Prelude.{◌≡◌, OnOk, OnErr, true};
 ghost use Rattle.io_edge.specs.Writing.{WritesAll, WritesSome};
 

@@ -12,7 +12,7 @@ use Rattle.case_types.specs.Bounds.{plane_at}
 use Rattle.case_types.specs.Columns.{IsColumn, point_of, plane_at_point}
 use Rattle.case_types.specs.Numbers.{Numbers, numbers_of}
 use Rattle.case_types.specs.Rounds.{IsFair, quarter_of}
-use Rattle.box_search.proofs.Pure.{count_is}
+use Rattle.pr_params.proofs.Sized.{count_of}
 use Rattle.plane_rounds.proofs.OnePhase.{at_one, plane_at_feed}
 
 -- a cost is its energy rounded up
@@ -52,4 +52,4 @@ fair c tol cols basis r one some all b dear e u = record {
     each : (col : Column) → IsColumn (numbers_of c) col → pos 0 ≤ℤ reduced_cost basis col → plane_at_point (numbers_of c).count r.plane.lam (point_of col) ≤ℤ (col.up +ℤ quarter_of tol)
     each col k d =
         not_deeper tol basis.cost col.cost (plane_at_point (numbers_of c).count r.plane.lam (point_of col)) col.up some d
-        (plane_at_column (numbers_of c) r.plane.lam col (count_is c ∙ one) k ∙ ap (λ lam. slice_index_or lam 0 (pos 0)) e) (column_cost (numbers_of c) col k).1
+        (plane_at_column (numbers_of c) r.plane.lam col (count_of c ∙ one) k ∙ ap (λ lam. slice_index_or lam 0 (pos 0)) e) (column_cost (numbers_of c) col k).1

@@ -18,11 +18,11 @@ use Rattle.case_types.specs.Numbers.{numbers_of}
 use Rattle.case_types.specs.Rounds.{Start, own_of, IsRound, AreRefuted, after}
 use Rattle.case_types.specs.Searches.{IsCutOff, OfHand, edges_in}
 use Rattle.case_types.proofs.Walks.{cuts_off, edges-append}
+use Rattle.pr_params.proofs.Sized.{count_of}
 use Rattle.box_search.specs.declared.found.Found.{Found}
 use Rattle.box_search.specs.declared.found.Found.TheVariants.{Refuted}
 use Rattle.box_search.specs.Found.{search_end, units_of}
 use Rattle.box_search.specs.Written.{Searches}
-use Rattle.box_search.proofs.Pure.{count_is}
 use Rattle.plane_rounds.specs.Noted.{columns_of, end_named, last_enters, round_noted}
 use Rattle.plane_rounds.proofs.Fairness.{column_cost, plane_at_column, fair}
 use Rattle.plane_rounds.proofs.Growing.{GoesOn, range-seam, length-range, get-append, get-seam, stays, one_more}
@@ -149,7 +149,7 @@ pub cheaper : (c : Case) (tol : ℕ) (lam : List ℤ) (basis kept : Column) → 
 cheaper c tol lam basis kept one some e column h =
     cheaper_cost tol basis.cost kept.cost kept.up (plane_at_point (numbers_of c).count lam (point_of kept)) some (column_cost (numbers_of c) kept column).1
     (rw column.up h.below)
-    (plane_at_column (numbers_of c) lam kept (count_is c ∙ one) column ∙ ap (λ l. slice_index_or l 0 (pos 0)) e)
+    (plane_at_column (numbers_of c) lam kept (count_of c ∙ one) column ∙ ap (λ l. slice_index_or l 0 (pos 0)) e)
 
 -- the lists with one column more
 enters_last : (cols new : List Column) (basis kept : Column) → new ≡ cols ++ kept ∷ [] → AreDearEnough basis cols → kept.cost <ℤ basis.cost →

@@ -3,7 +3,7 @@ use Rattle.std.specs.Int.{w64, w128}
 use Rattle.std.proofs.lemmas.Int.{ints}
 use Rattle.log_laws.specs.Whole.{ceil_over}
 use Rattle.log_laws.proofs.Exports.{back}
-use Rattle.box_search.proofs.Pure.{count_is}
+use Rattle.pr_params.proofs.Sized.{count_of}
 use Rattle.box_search.proofs.points.column_at.Goals as goal
 
 pub returns-clause-column : goal.returns-clause-column
@@ -16,7 +16,7 @@ returns-clause-column c =
     let cost : c.cost_of.result ≡ ceil_over up (2 ^ 10) = rw wide at c.cost_of.ensures.value in
     let value = rw c.box_at.ensures at c.energy_up-up.ensures.value in
     record {
-      point = record { whole = rw (count_is c.args.params.now.case) c.requires.whole; not_empty = c.requires.some; not_full = c.requires.inside };
+      point = record { whole = rw (count_of c.args.params.now.case) c.requires.whole; not_empty = c.requires.some; not_full = c.requires.inside };
       up = up_read ∙ value;
       small = rw up_read small;
       cost = cost_read ∙ (rw up_read cost);

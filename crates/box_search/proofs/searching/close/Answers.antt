@@ -5,8 +5,8 @@ use Rattle.log_laws.proofs.Exports.{back}
 use Rattle.pr_params.proofs.Alpha.{abs_within}
 use Rattle.case_types.specs.Cells.{region_of}
 use Rattle.case_types.specs.Numbers.{numbers_of}
+use Rattle.pr_params.proofs.Sized.{count_of}
 use Rattle.box_search.proofs.Letters.{no_more, one_more}
-use Rattle.box_search.proofs.Pure.{count_is}
 use Rattle.box_search.proofs.SoFar.{IsLesser}
 use Rattle.box_search.proofs.Closing.{close_begins, close_more, close_passes, closed}
 use Rattle.box_search.proofs.searching.close.Goals as goal
@@ -35,7 +35,7 @@ loop-cell-preserved c =
       closing =
           rw read
           (close_more (numbers_of c.args.params.now.case) c.args.plane.now.lam _ (to_z w128 c.loop-cell.low-bits) c.smaller-low.result c.args.stack c.loop-cell.stack c.pop.new.self
-          c.args.letters.now.items c.loop-cell.letters.items c.push-else-misses.new.self.items (region_of c.in-Some.cell) (rw (count_is c.args.params.now.case, ← c.misses.ensures) c.if-misses.false) c.in-Some.ensures.some c.push-else-misses.ensures.items
+          c.args.letters.now.items c.loop-cell.letters.items c.push-else-misses.new.self.items (region_of c.in-Some.cell) (rw (count_of c.args.params.now.case, ← c.misses.ensures) c.if-misses.false) c.in-Some.ensures.some c.push-else-misses.ensures.items
           (rw c.low_plain.ensures.value at lesser) old.closing);
     }
 
@@ -55,7 +55,7 @@ loop-cell-preserved-then-misses c =
       closing =
           close_passes (numbers_of c.args.params.now.case) c.args.plane.now.lam _ (to_z w128 c.loop-cell.low-bits) c.args.stack c.loop-cell.stack c.pop.new.self
           c.args.letters.now.items c.loop-cell.letters.items c.push-then-misses.new.self.items (region_of c.in-Some.cell)
-          (rw (count_is c.args.params.now.case, ← c.misses.ensures) c.if-misses.true) c.in-Some.ensures.some c.push-then-misses.ensures.items old.closing;
+          (rw (count_of c.args.params.now.case, ← c.misses.ensures) c.if-misses.true) c.in-Some.ensures.some c.push-then-misses.ensures.items old.closing;
     }
 
 pub loop-cell-init : goal.loop-cell-init

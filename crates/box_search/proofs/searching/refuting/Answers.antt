@@ -5,14 +5,14 @@ use Rattle.case_types.specs.Cells.{Region, GridPoint, region_of, midpoint}
 use Rattle.case_types.specs.Columns.{Refutes, point_of}
 use Rattle.case_types.specs.Numbers.{numbers_of}
 use Rattle.case_types.specs.declared.cases.Case.{Case}
+use Rattle.pr_params.proofs.Sized.{count_of}
 use Rattle.box_search.proofs.Causes.{middle_pure, middle_whole, too_great, middle_stays}
-use Rattle.box_search.proofs.Pure.{count_is}
 use Rattle.box_search.proofs.searching.refuting.Goals as goal
 
 pub returns-then-refutes-clause-refutes : goal.returns-then-refutes-clause-refutes
 returns-then-refutes-clause-refutes c =
     let column = c.in_ok-column.ensures.column in
-    let count = count_is c.args.params.now.case in
+    let count = count_of c.args.params.now.case in
     let delta = back c.args.delta (omega (arith, ints, c.requires.delta_low, c.requires.delta_high)) in
     record {
       point = column.point;
@@ -22,7 +22,7 @@ returns-then-refutes-clause-refutes c =
 
 -- the middle of the cell, by the numbers of the case
 middle_is : (case : Case) (r : Region) (g : GridPoint) → Some g ≡ midpoint case.n r → midpoint (numbers_of case).count r ≡ Some g
-middle_is case r g e = rw (count_is case) (sym e)
+middle_is case r g e = rw (count_of case) (sym e)
 
 pub returns-in_err-column-clause-none : goal.returns-in_err-column-clause-none
 returns-in_err-column-clause-none c =
@@ -45,7 +45,7 @@ returns-else-refutes-clause-none c =
     let at = middle_is case r (record { composition = c.in_ok-comp.comp; packing = c.in_ok-comp.packing }) c.in_ok-comp.ensures.value in
     let here : midpoint (numbers_of case).count r ≡ Some g = rw (c.in_ok-column.ensures.comp, c.in_ok-column.ensures.packing) at in
     let column = c.in_ok-column.ensures.column in
-    let count = count_is case in
+    let count = count_of case in
     let delta = back c.args.delta (omega (arith, ints, c.requires.delta_low, c.requires.delta_high)) in
     middle_stays (numbers_of case) c.args.plane.now.lam c.args.delta r g here
     (λ (h : Refutes (numbers_of case) c.args.plane.now.lam c.args.delta g). let t = c.refutes.ensures.1 (rw delta (rw (← column.up, count) at h.below)) in cc)

@@ -7,12 +7,12 @@ use Rattle.log_laws.proofs.Exports.{back}
 use Rattle.case_types.specs.Cells.{region_of, root_region, lower_half, upper_half, edge_length}
 use Rattle.case_types.specs.Columns.{point_of}
 use Rattle.case_types.specs.Numbers.{numbers_of}
+use Rattle.pr_params.proofs.Sized.{count_of}
 use Rattle.box_search.specs.declared.found.Found.TheVariants.{AllClear, Refuted}
 use Rattle.box_search.proofs.Letters.{no_more, one_more, writes}
 use Rattle.box_search.proofs.Deep.{deep_root, deep_rest, deep_room, deep_halves}
-use Rattle.box_search.proofs.Pure.{count_is, not_one}
 use Rattle.box_search.proofs.Root.{begun_rest}
-use Rattle.box_search.proofs.Causes.{middle_refutes, uncleared, cut_off, unit_edge, no_unit_edge, edge_named, edge_inside}
+use Rattle.box_search.proofs.Causes.{middle_refutes, uncleared, cut_off, unit_edge, no_unit_edge, wide_edge, edge_named, edge_inside}
 use Rattle.box_search.proofs.SoFar.{IsLesser, root_meets, begins, passes, stands, halves, ended, stops_grain, low_clear}
 use Rattle.box_search.proofs.searching.search.Answers.Hand.{Mid, here_low, delta_read, not_clear, root_not_clear, cell_uncleared, far_below, lesser_of, mid_small, stopped_letters, stopped}
 use Rattle.box_search.proofs.searching.search.Goals as goal
@@ -23,7 +23,7 @@ pub loop-cell-init : goal.loop-cell-init
 loop-cell-init c =
     let n : length c.new-stack.result ≡ 1 = ap length c.new-stack.ensures.whole in
     let none : 2 * (c.args.units.now.spent - c.args.units.now.spent) + 1 - 1 ≡ 0 = omega arith in
-    let first : c.new-stack.result ≡ root_region (numbers_of c.args.params.now.case).count ∷ [] = rw (count_is c.args.params.now.case) c.new-stack.ensures.whole in
+    let first : c.new-stack.result ≡ root_region (numbers_of c.args.params.now.case).count ∷ [] = rw (count_of c.args.params.now.case) c.new-stack.ensures.whole in
     record {
       deep = rw c.new-stack.ensures.whole (deep_root c.args.params.now.case.n c.args.params.now.case.few c.new-stack.ensures.halvings);
       begun = inl first;
@@ -69,7 +69,7 @@ loop-cell-preserved-then-here-delta c =
           rw read
           (stands (numbers_of c.args.params.now.case) c.args.plane.now.lam _ (to_z w128 c.loop-cell.low-bits) c.smaller-low.result c.args.letters.now.items c.loop-cell.letters.items
           c.push-then-here-delta.new.self.items spent (region_of c.in-Some.cell) c.loop-cell.stack c.pop.new.self e c.push-then-here-delta.ensures.items
-          (rw (count_is c.args.params.now.case, ← c.misses.ensures) c.if-misses.false, rw c.low_plain-here.ensures.value at clear)
+          (rw (count_of c.args.params.now.case, ← c.misses.ensures) c.if-misses.false, rw c.low_plain-here.ensures.value at clear)
           (rw c.low_plain-here.ensures.value at lesser) (rw (← c.low_plain-here.ensures.value) (omega (arith, ints, c.low_plain-here.ensures.small))) old.so_far);
       counted = omega (arith, n, old.counted);
     }
@@ -93,7 +93,7 @@ loop-cell-preserved-then-misses c =
       so_far =
           passes (numbers_of c.args.params.now.case) c.args.plane.now.lam _ (to_z w128 c.loop-cell.low-bits) c.args.letters.now.items c.loop-cell.letters.items
           c.push.new.self.items spent (region_of c.in-Some.cell) c.loop-cell.stack c.pop.new.self e c.push.ensures.items
-          (rw (count_is c.args.params.now.case, ← c.misses.ensures) c.if-misses.true) old.so_far;
+          (rw (count_of c.args.params.now.case, ← c.misses.ensures) c.if-misses.true) old.so_far;
       counted = omega (arith, n, old.counted);
     }
 
@@ -103,7 +103,7 @@ is_unit-requires c =
 
 wide : (c : After-cell-else-is_spent-2-1) → 2 ≤ edge_length (region_of c.in-Some.cell) c.edge_to_halve-edge.result
 wide c =
-    not_one (edge_length (region_of c.in-Some.cell) c.edge_to_halve-edge.result) c.edge_to_halve-edge.ensures.long (λ k. let t = c.is_unit.ensures.unit.1 k in cc)
+    wide_edge (edge_length (region_of c.in-Some.cell) c.edge_to_halve-edge.result) c.edge_to_halve-edge.ensures.long (λ k. let t = c.is_unit.ensures.unit.1 k in cc)
 
 pub push_halves-requires-clause-wide : goal.push_halves-requires-clause-wide
 push_halves-requires-clause-wide c = wide c
@@ -146,8 +146,8 @@ loop-cell-preserved c =
           c.loop-cell.stack c.pop.new.self c.push_halves.new.self inside e c.push_halves.ensures.halves (c.push-else-is_spent-2.ensures.items ∙ ap (λ x. c.loop-cell.letters.items ++ x ∷ []) c.edge_letter.ensures) (
             record { uncleared = cell_uncleared here.Else-here-delta; not_refuting = rw delta at c.in_default-refuting.ensures.none },
             no_unit_edge c.args.params.now.case.n (numbers_of c.args.params.now.case).count (region_of c.in-Some.cell) c.edge_to_halve-edge.result c.is_unit.result
-                (count_is c.args.params.now.case) c.edge_to_halve-edge.ensures.named c.is_unit.ensures.value c.if-is_unit.false,
-            edge_named c.args.params.now.case.n (numbers_of c.args.params.now.case).count r edge (count_is c.args.params.now.case) c.edge_to_halve-edge.ensures.named,
+                (count_of c.args.params.now.case) c.edge_to_halve-edge.ensures.named c.is_unit.ensures.value c.if-is_unit.false,
+            edge_named c.args.params.now.case.n (numbers_of c.args.params.now.case).count r edge (count_of c.args.params.now.case) c.edge_to_halve-edge.ensures.named,
           )
           (omega (arith, next, old.spent)) (rw delta at old.so_far));
       counted = omega (arith, n, m, next, old.spent, old.counted);
@@ -193,7 +193,7 @@ pub returns-then-is_unit-clause-found : goal.returns-then-is_unit-clause-found
 returns-then-is_unit-clause-found c =
     let here = (goal.at.returns-then-is_unit-clause-found c).Else-here-delta in (
       omega (arith, ints, here_low here, c.smaller-then-is_unit.ensures.second, c.close-low-then-is_unit.ensures.low, c.requires.delta_low, c.requires.delta_high),
-      record { one_unit = rw (count_is c.args.params.now.case, ← c.edge_to_halve-edge.ensures.named) (c.is_unit.ensures.unit.0 c.if-is_unit.true); not_clear = not_clear here },
+      record { one_unit = rw (count_of c.args.params.now.case, ← c.edge_to_halve-edge.ensures.named) (c.is_unit.ensures.unit.0 c.if-is_unit.true); not_clear = not_clear here },
     )
 
 pub returns-then-is_spent-2-clause-found : goal.returns-then-is_spent-2-clause-found
@@ -262,7 +262,7 @@ returns-then-is_unit-clause-searched c =
       same = refl;
       stuck = record { uncleared = cell_uncleared here; not_refuting = rw delta at c.in_default-refuting.ensures.none };
       one_unit = unit_edge case.n (numbers_of case).count (region_of c.in-Some.cell) c.edge_to_halve-edge.result c.is_unit.result
-          (count_is case) c.edge_to_halve-edge.ensures.named c.is_unit.ensures.value c.if-is_unit.true;
+          (count_of case) c.edge_to_halve-edge.ensures.named c.is_unit.ensures.value c.if-is_unit.true;
     })
     closes (lesser_of here _ mid) (far_below here) (rw delta at c.loop-cell.invariant.so_far))
 
@@ -275,7 +275,7 @@ returns-then-is_spent-2-clause-searched c =
     (record {
       uncleared = cell_uncleared here;
       wants = inr (no_unit_edge case.n (numbers_of case).count (region_of c.in-Some.cell) c.edge_to_halve-edge.result c.is_unit.result
-          (count_is case) c.edge_to_halve-edge.ensures.named c.is_unit.ensures.value c.if-is_unit.false);
+          (count_of case) c.edge_to_halve-edge.ensures.named c.is_unit.ensures.value c.if-is_unit.false);
     }) c.close-low-then-is_spent-2.ensures.closes)
 
 pub returns-clause-searched : goal.returns-clause-searched
@@ -285,5 +285,5 @@ returns-clause-searched c =
     ended (numbers_of case) c.args.plane.now.lam c.args.delta (to_z w128 c.loop-cell.low-bits) c.args.letters.now.items c.loop-cell.letters.items c.loop-cell.letters.items
     (c.loop-cell.units.spent - c.args.units.now.spent) (c.loop-cell.units.spent - c.args.units.now.spent) c.loop-cell.stack [] (AllClear (to_z w128 c.loop-cell.low-bits)) c.in_default.ensures.none refl
     (sym (append-nil c.loop-cell.letters.items)) (omega arith)
-    (λ t before e over reached. low_clear (numbers_of case) c.args.plane.now.lam (to_z w128 c.loop-cell.low-bits) t (root_region (numbers_of case).count) before (root_meets (numbers_of case).count (omega (arith, count_is case, case.few))) e over reached)
+    (λ t before e over reached. low_clear (numbers_of case) c.args.plane.now.lam (to_z w128 c.loop-cell.low-bits) t (root_region (numbers_of case).count) before (root_meets (numbers_of case).count (omega (arith, count_of case, case.few))) e over reached)
     (rw delta at c.loop-cell.invariant.so_far)

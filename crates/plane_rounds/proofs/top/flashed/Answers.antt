@@ -9,11 +9,11 @@ use Rattle.case_types.specs.Spared.{Spared}
 use Rattle.case_types.specs.Answers.{delta_of}
 use Rattle.case_types.specs.Cells.{root_region, plain_low}
 use Rattle.case_types.specs.Numbers.{numbers_of}
-use Rattle.box_search.proofs.Pure.{count_is}
 use Rattle.case_types.proofs.Walks.{leaf_over}
 use Rattle.case_types.specs.Bases.{plane_over}
 use Rattle.case_types.specs.declared.pivots.Pivot.{Pivot}
 use Rattle.case_types.specs.Lawful.{EndsAs}
+use Rattle.pr_params.proofs.Sized.{count_of}
 use Rattle.box_search.specs.Found.{search_end}
 use Rattle.plane_rounds.proofs.Answered.{first_good, ends_as, lawful_end, lawful_cut}
 use Rattle.plane_rounds.proofs.Rows.{Pending, Went, flashing_begins, refuted_more, entered_basis}
@@ -76,7 +76,7 @@ returns-then-is_spent-clause-answer c =
     let whole = c.round-found.ensures.budget ∙ c.loop-column.invariant.budget in
     let spent = c.is_spent.ensures.0 c.if-is_spent.true in
     let value = rw (c.plane_of-plane-then-is_spent.ensures, c.root.ensures.whole) at c.low_plain-low.ensures.value in
-    let region = ap (λ (n : ℕ). plain_low (numbers_of case) (plane_over c.first_column-first.result) (root_region n)) (count_is case) in
+    let region = ap (λ (n : ℕ). plain_low (numbers_of case) (plane_over c.first_column-first.result) (root_region n)) (count_of case) in
     let read = back c.low_plain-low.result (omega (arith, c.low_plain-low.ensures.small)) in
     let below : c.low_plain-low.result <ℤ neg_ℤ (delta_of c.args.tol) = rw (value ∙ sym region) (first_open here) in
     record {
@@ -141,7 +141,7 @@ returns-then-is_spent-clause-lawful c =
     let up_read : to_z w128 (of_z w128 (to_z w64 (of_z w64 up))) ≡ up = omega (arith, ints, c.loop-column.invariant.column.small) in
     let low_read = back c.low_plain-low.result (omega (arith, c.low_plain-low.ensures.small)) in
     let value = rw (c.root.ensures.whole) at c.low_plain-low.ensures.value in
-    let region = ap (λ (n : ℕ). plain_low (numbers_of case) c.plane_of-plane-then-is_spent.result.lam (root_region n)) (count_is case) in
+    let region = ap (λ (n : ℕ). plain_low (numbers_of case) c.plane_of-plane-then-is_spent.result.lam (root_region n)) (count_of case) in
     let low : c.answer_of-then-is_spent.result.low ≡ plain_low (numbers_of case) c.plane_of-plane-then-is_spent.result.lam (root_region (numbers_of case).count) =
     answer.low ∙ low_read ∙ value ∙ sym region in
     lawful_cut case c.args.tol c.args.budget c.round-found.new.units.spent c.round-found.new.work c.first_column-first.result c.loop-column.basis c.in-Enters.column

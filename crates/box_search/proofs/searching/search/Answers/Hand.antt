@@ -7,10 +7,10 @@ use Rattle.case_types.specs.Cells.{region_of, root_region, plain_low, misses}
 use Rattle.case_types.specs.Numbers.{numbers_of}
 use Rattle.case_types.specs.Searches.{IsUncleared, WantsUnit}
 use Rattle.case_types.specs.Spared.{Spared}
+use Rattle.pr_params.proofs.Sized.{count_of}
 use Rattle.box_search.specs.declared.found.Found.TheVariants.{Spent}
 use Rattle.box_search.specs.Written.{Writes, WritesSome, Closes, Searches}
 use Rattle.box_search.proofs.Letters.{then_more, writes}
-use Rattle.box_search.proofs.Pure.{count_is}
 use Rattle.box_search.proofs.Root.{root_open}
 use Rattle.box_search.proofs.Causes.{uncleared}
 use Rattle.box_search.proofs.SoFar.{IsLesser, lesser_small, highest, stops_spent}
@@ -33,7 +33,7 @@ root_not_clear c =
 
 -- the cell holds compositions
 pub cell_meets : (c : Else-here-delta) → IsFalse (misses (numbers_of c.args.params.now.case).count (region_of c.in-Some.cell))
-cell_meets c = rw (count_is c.args.params.now.case, ← c.misses.ensures) c.if-misses.false
+cell_meets c = rw (count_of c.args.params.now.case, ← c.misses.ensures) c.if-misses.false
 
 pub cell_uncleared : (c : Else-here-delta) → IsUncleared (numbers_of c.args.params.now.case) c.args.plane.now.lam c.args.delta (region_of c.in-Some.cell)
 cell_uncleared c =
