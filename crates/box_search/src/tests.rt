@@ -1,10 +1,9 @@
 //! Searches among like components against what an independent program found and wrote.
 
-ghost use Rattle.std.specs.Prelude.{◌≡◌, ◌≤◌};
-
 use super::*;
-use case_types::{Case, Cell, Column, Letters, Name, Plane, Row, SLOTS, Units};
+use case_types::{Cell, Column, Letters, SLOTS, Units};
 use pr_params::params;
+use sample_cases::{like_components, plane_of};
 use std::test::Fail;
 
 /// A search under one plane.
@@ -249,43 +248,6 @@ const TRIALS: [Trial; 15] = [
         letters: b"yyy123y123yp12p3pp23pypp3yppyp1p2p3ppyp123pp3pp23yp1ppyp1pp3yp12pp2ppy",
     },
 ];
-
-/// Equal parts of `n` like components at the critical point of each.
-fn like_components(n: u8) -> Case
-    requires some { 1 ≤ n }
-    requires few { n ≤ 4 }
-    ensures { result.n ≡ n }
-{
-    let name = Name {
-        len: 0,
-        bytes: [0; 16],
-    };
-    let row = Row {
-        name,
-        tc: 300_000,
-        pc: 1_000_000,
-        w: 0,
-    };
-    Case {
-        n,
-        rows: [row; SLOTS],
-        k: [[0; SLOTS]; SLOTS],
-        z: [1; SLOTS],
-        total: n as u32,
-        t: 300_000,
-        p: 1_000_000,
-    }
-}
-
-/// The plane of these potentials.
-fn plane_of(lam: [i128; SLOTS]) -> Option<Plane> {
-    let limit = 1 << 80;
-    let first_small = lam[0].unsigned_abs() < limit && lam[1].unsigned_abs() < limit;
-    if !first_small || lam[2].unsigned_abs() >= limit || lam[3].unsigned_abs() >= limit {
-        return None;
-    }
-    Some(Plane { lam })
-}
 
 #[test]
 fn searches_of_mixtures(rt: HostRuntime) -> Result<(), Fail> {

@@ -1,5 +1,5 @@
 -- The bytes of a name, one more at a time.
-use Rattle.std.proofs.Common.{◌≡◌, ℕ, ◌+◌, ◌<◌, ◌≤◌, List, [], ◌∷◌, ◌++◌, ap, sym, ◌∙◌, take, Bool, true, false, ◌&&◌, ◌||◌, refl, get_or, set, length, arith, below_more, nat_lt, nat_le, inl, inr, zero, suc}
+use Rattle.std.proofs.Common.{◌≡◌, ℕ, ◌+◌, ◌<◌, ◌≤◌, List, [], ◌∷◌, ◌++◌, ap, sym, ◌∙◌, take, Bool, true, false, ◌&&◌, ◌||◌, refl, get_or, set, length, arith, below_more, nat_lt, nat_le, inl, inr}
 use Rattle.std.specs.Prelude.{◌==◌, IsTrue, slice_index, Ok, Err}
 use Rattle.std.specs.List.{list_all}
 use Rattle.dec_text.specs.declared.faults.DecFault.TheVariants.{Empty, Digit}
@@ -7,7 +7,7 @@ use Rattle.case_words.specs.Names.{name_of}
 use Rattle.std.proofs.lemmas.List.{get_or-set_same, get_or-set_other, take_more, take_more_set, take_all}
 use Rattle.std.proofs.lemmas.Bool.{cases_lt, le-leb, lt-ltb}
 use Rattle.case_types.specs.Ranges.{is_name, is_name_byte}
-use Rattle.log_laws.specs.Sums.{all_below}
+use Rattle.log_laws.proofs.Exports.{all_below-from}
 
 -- each byte so far is as Q says, also after one more
 pub each-more : (Q : ℕ → Type 0) (bytes : List ℕ) (i v : ℕ) → i < length bytes → Q v
@@ -30,28 +30,20 @@ copied-more bytes text i inside there same =
     ∙ ap (λ (t : List ℕ). t ++ get_or text i 0 ∷ []) same
     ∙ sym (take_more text i 0 there)
 
--- tests of two and of three parts
-both : (a b : Bool) → a ≡ true → b ≡ true → (a && b) ≡ true
-both a b p q = rw (p, q) refl
-
+-- tests of three parts
 first_pair : (a b c : Bool) → a ≡ true → b ≡ true → (a && b || c) ≡ true
 first_pair a b c p q = rw (p, q) refl
 
 last_pair : (a b c : Bool) → b ≡ true → c ≡ true → (a || b && c) ≡ true
 last_pair a b c p q = rw (p, q) (elim a as (λ x. (x || true) ≡ true) [ true ↦ refl | false ↦ refl ])
 
--- a test that holds everywhere
-all_below-each : (n : ℕ) (p : ℕ → Bool) → ((k : ℕ) → p k ≡ true) → all_below n p ≡ true
-all_below-each zero p each = refl
-all_below-each (suc n) p each = both (all_below n p) (p n) (all_below-each n p each) (each n)
-
 -- bytes of names, and 0 after
 pub is_name-each : (len : ℕ) (bytes : List ℕ) → ((k : ℕ) → k < len → IsTrue (is_name_byte (get_or bytes k 0)))
     → ((k : ℕ) → len ≤ k → get_or bytes k 0 ≡ 0) → IsTrue (is_name len bytes)
 is_name-each len bytes spelled rest =
-    all_below-each 16
+    all_below-from 16
     (λ (k : ℕ). nat_lt k len && is_name_byte (slice_index bytes k) || nat_le len k && slice_index bytes k == 0)
-    (λ (k : ℕ). elim (cases_lt k len) [
+    (λ (k : ℕ) (l : k < 16). elim (cases_lt k len) [
       | inl h ↦ first_pair (nat_lt k len) (is_name_byte (slice_index bytes k)) (nat_le len k && slice_index bytes k == 0) (lt-ltb k len h) (spelled k h)
       | inr h ↦ last_pair (nat_lt k len && is_name_byte (slice_index bytes k)) (nat_le len k) (slice_index bytes k == 0) (le-leb len k h) (rw (rest k h) refl)
     ])

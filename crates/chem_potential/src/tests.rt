@@ -1,59 +1,10 @@
 //! Potentials against numbers that an independent program computed from the exact formula, and the ends of the range.
 
 use super::*;
-use case_types::{Case, Name, Phase, Row, SLOTS};
+use case_types::{Case, Phase, SLOTS};
 use pr_params::params;
+use sample_cases::{like_components, methane_to_nitrogen};
 use std::test::Fail;
-
-/// No name.
-const NAMELESS: Name = Name {
-    len: 0,
-    bytes: [0; 16],
-};
-
-/// Methane, propane, decane and nitrogen.
-const ROWS: [Row; SLOTS] = [
-    Row {
-        name: NAMELESS,
-        tc: 190_564,
-        pc: 4_599_200,
-        w: 114,
-    },
-    Row {
-        name: NAMELESS,
-        tc: 369_830,
-        pc: 4_248_000,
-        w: 1_523,
-    },
-    Row {
-        name: NAMELESS,
-        tc: 617_700,
-        pc: 2_110_000,
-        w: 4_923,
-    },
-    Row {
-        name: NAMELESS,
-        tc: 126_200,
-        pc: 3_400_000,
-        w: 372,
-    },
-];
-
-/// The interactions of three pairs of them.
-const INTERACTIONS: [[i32; SLOTS]; SLOTS] = [
-    [0, 0, 422, 311],
-    [0, 0, 0, 852],
-    [422, 0, 0, 0],
-    [311, 852, 0, 0],
-];
-
-/// A component at its critical point.
-const CRITICAL: Row = Row {
-    name: NAMELESS,
-    tc: 300_000,
-    pc: 1_000_000,
-    w: 0,
-};
 
 /// The parts of a phase, its packing, and its exact potentials, in 2^-40 bit and kept to 2^20 bit.
 type Known = (u8, [u128; SLOTS], u64, [i128; SLOTS]);
@@ -296,45 +247,11 @@ const MIXTURES: [Known; 21] = [
     ),
 ];
 
-/// The first `n` components of the mixture at 300 K and 50 bar, and the critical component for 1.
+/// A component at its critical point, or two to four components.
 fn case_of(n: u8) -> Option<Case> {
     match n {
-        1 => Some(Case {
-            n: 1,
-            rows: [CRITICAL; SLOTS],
-            k: [[0; SLOTS]; SLOTS],
-            z: [1, 0, 0, 0],
-            total: 1,
-            t: 300_000,
-            p: 1_000_000,
-        }),
-        2 => Some(Case {
-            n: 2,
-            rows: ROWS,
-            k: INTERACTIONS,
-            z: [1, 1, 0, 0],
-            total: 2,
-            t: 300_000,
-            p: 5_000_000,
-        }),
-        3 => Some(Case {
-            n: 3,
-            rows: ROWS,
-            k: INTERACTIONS,
-            z: [1, 1, 1, 0],
-            total: 3,
-            t: 300_000,
-            p: 5_000_000,
-        }),
-        4 => Some(Case {
-            n: 4,
-            rows: ROWS,
-            k: INTERACTIONS,
-            z: [1, 1, 1, 1],
-            total: 4,
-            t: 300_000,
-            p: 5_000_000,
-        }),
+        1 => Some(like_components(1)),
+        2..=4 => Some(methane_to_nitrogen(n)),
         _ => None,
     }
 }

@@ -3,14 +3,14 @@ use Rattle.std.proofs.Common.{ℕ, zero, suc, ◌*◌, ◌^◌, ◌≤◌, ◌<�
 use Rattle.std.proofs.Math.Nat.{div-mul-le_self, le_of_mul-le-mul_right}
 use Rattle.std.proofs.lemmas.Bool.{le-leb, ltb-true}
 use Rattle.log_laws.specs.Sums.{sum_below, list_below}
-use Rattle.log_laws.proofs.Exports.{le-sum_below, sum_below-scaled}
+use Rattle.log_laws.proofs.Exports.{le-sum_below, sum_below-scaled, all_below-from}
 use Rattle.case_types.specs.declared.phases.Phase.{Phase}
 use Rattle.case_types.specs.Bounds.{Box, one, box_of_parts, share_down, share_up}
 use Rattle.case_types.specs.Divisions.{moles, state_of}
 use Rattle.case_types.specs.Holding.{IsInBox}
 use Rattle.case_types.specs.Ranges.{is_each_at_most, is_each_up_to}
 use Rattle.pr_params.proofs.Attracted.{le-ceiling}
-use Rattle.pr_params.proofs.Below.{all_below_from, get_or-list_below}
+use Rattle.pr_params.proofs.Below.{get_or-list_below}
 use Rattle.pr_params.proofs.Faulted.{lt_yes}
 use Rattle.pr_params.proofs.Sizes.{ceiling_at_most, floor-le-ceiling}
 
@@ -77,8 +77,8 @@ pub record IsBox (x : Box) : Type 0 where
 pub parts_box : (n : ℕ) (parts : List ℕ) → n ≤ 4 → 0 < sum_below n (slice_index parts) → IsBox (box_of_parts n parts)
 parts_box n parts few some =
     record {
-      ordered = all_below_from 4 (λ i. nat_le (slice_index box.lo i) (slice_index box.hi i)) (λ i l. le-leb _ _ (ordered i l));
-      inside = all_below_from 4 (λ i. nat_le (slice_index box.hi i) one) (λ i l. le-leb _ _ (inside i l));
+      ordered = all_below-from 4 (λ i. nat_le (slice_index box.lo i) (slice_index box.hi i)) (λ i l. le-leb _ _ (ordered i l));
+      inside = all_below-from 4 (λ i. nat_le (slice_index box.hi i) one) (λ i l. le-leb _ _ (inside i l));
       not_above = rw (live_sum floor n few) (le_of_mul-le-mul_right {k = m} (let l = floors in omega (arith, l)) some);
       not_below = rw (live_sum ceiling n few) (le_of_mul-le-mul_right {k = m} (let l = ceilings in omega (arith, l)) some);
     }

@@ -1,11 +1,10 @@
 //! Energies of phases of one to four components against numbers that an independent program computed.
 
-ghost use Rattle.std.specs.Prelude.{◌≡◌, ◌≤◌};
-
 use super::*;
 use crate::tests::box_of_phase;
-use case_types::{Case, Name, Row, SLOTS};
+use case_types::SLOTS;
 use pr_params::params;
+use sample_cases::ethane_to_benzene;
 use std::test::Fail;
 
 /// How many components are live, the parts of a phase, its packing in 2^-40, and its energy in 2^-40 bit.
@@ -115,65 +114,6 @@ const ENERGIES: [Energy; 40] = [
     ),
 ];
 
-/// No name.
-const NAMELESS: Name = Name {
-    len: 0,
-    bytes: [0; 16],
-};
-
-/// Ethane, butane, carbon dioxide and benzene.
-const ROWS: [Row; SLOTS] = [
-    Row {
-        name: NAMELESS,
-        tc: 305_320,
-        pc: 4_872_000,
-        w: 995,
-    },
-    Row {
-        name: NAMELESS,
-        tc: 425_120,
-        pc: 3_796_000,
-        w: 2_002,
-    },
-    Row {
-        name: NAMELESS,
-        tc: 304_128,
-        pc: 7_377_300,
-        w: 2_239,
-    },
-    Row {
-        name: NAMELESS,
-        tc: 562_050,
-        pc: 4_895_000,
-        w: 2_103,
-    },
-];
-
-/// The interactions of the pairs with carbon dioxide.
-const INTERACTIONS: [[i32; SLOTS]; SLOTS] = [
-    [0, 0, 1_322, 0],
-    [0, 0, 1_333, 0],
-    [1_322, 1_333, 0, 774],
-    [0, 0, 774, 0],
-];
-
-/// Equal parts of the first `n` of them at 350 K and 40 bar.
-fn equal_parts(n: u8) -> Case
-    requires some { 1 ≤ n }
-    requires few { n ≤ 4 }
-    ensures { result.n ≡ n }
-{
-    Case {
-        n,
-        rows: ROWS,
-        k: INTERACTIONS,
-        z: [1; SLOTS],
-        total: n as u32,
-        t: 350_000,
-        p: 4_000_000,
-    }
-}
-
 #[test]
 fn energies_of_mixtures(rt: HostRuntime) -> Result<(), Fail> {
     for (n, parts, packing, up) in ENERGIES {
@@ -181,7 +121,7 @@ fn energies_of_mixtures(rt: HostRuntime) -> Result<(), Fail> {
         assert!(rt; n <= 4);
         assert!(rt; packing >= 1);
         assert!(rt; packing < 1 << 40);
-        let params = params(&equal_parts(n)).ok().ok_or("no parameters")?;
+        let params = params(&ethane_to_benzene(n)).ok().ok_or("no parameters")?;
         let x = box_of_phase(n, parts).ok_or("no box")?;
         assert_eq!(rt; energy_up(&params, &x, packing), up, "of {n} at {packing}");
     }

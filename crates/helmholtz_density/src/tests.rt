@@ -5,7 +5,8 @@ ghost use Rattle.std.specs.Prelude.{◌≡◌, ◌≤◌};
 use super::*;
 use crate::compositions::moles;
 use crate::mixes::entropy;
-use case_types::{BoxX, Case, Name, Phase, Row, SLOTS};
+use case_types::{BoxX, Phase, SLOTS};
+use sample_cases::like_components;
 use std::test::Fail;
 
 /// 1 in 2^-40.
@@ -16,33 +17,6 @@ const HALF: u64 = 1 << 39;
 
 /// A quarter in 2^-40.
 const QUARTER: u64 = 1 << 38;
-
-/// A case of `n` like components.
-fn like_components(n: u8) -> Case
-    requires some { 1 ≤ n }
-    requires few { n ≤ 4 }
-    ensures { result.n ≡ n }
-{
-    let name = Name {
-        len: 0,
-        bytes: [0; 16],
-    };
-    let row = Row {
-        name,
-        tc: 300_000,
-        pc: 1_000_000,
-        w: 0,
-    };
-    Case {
-        n,
-        rows: [row; SLOTS],
-        k: [[0; SLOTS]; SLOTS],
-        z: [1; SLOTS],
-        total: n as u32,
-        t: 300_000,
-        p: 1_000_000,
-    }
-}
 
 /// The box of the phase of `n` components, if one of them has a part and none has 2^104.
 pub fn box_of_phase(n: u8, parts: [u128; SLOTS]) -> Option<BoxX>

@@ -1,9 +1,9 @@
--- Sums, least and greatest values below a number, as a loop makes them.
-use Rattle.std.proofs.Common.{◌≡◌, ℕ, zero, suc, ◌+◌, ◌^◌, ◌<◌, ◌≤◌, ℤ, pos, ◌+ℤ◌, ◌≤ℤ◌, unsigned_abs, refl, arith, add-one, to_z, of_z, inl, inr}
+-- Sums, least and greatest values, and tests of all numbers below one, as a loop makes them.
+use Rattle.std.proofs.Common.{Bool, true, false, ◌&&◌, IsTrue, ◌≡◌, ℕ, zero, suc, ◌+◌, ◌^◌, ◌<◌, ◌≤◌, ℤ, pos, ◌+ℤ◌, ◌≤ℤ◌, unsigned_abs, refl, arith, add-one, to_z, of_z, inl, inr}
 use Rattle.std.specs.Int.{w128, int_min, int_max}
 use Rattle.std.proofs.lemmas.Bool.{cases_lt}
 use Rattle.std.proofs.lemmas.Int.{ints, clamps}
-use Rattle.log_laws.specs.Sums.{sum_below, int_sum_below, least_below, greatest_below}
+use Rattle.log_laws.specs.Sums.{sum_below, int_sum_below, least_below, greatest_below, all_below}
 
 -- ---- sums of natural numbers
 pub sum_below-more : (n : ℕ) (f : ℕ → ℕ) → sum_below (n + 1) f ≡ sum_below n f + f n
@@ -81,4 +81,57 @@ le-greatest (suc n) i f first h =
     elim (cases_lt i n) [
       | inl l ↦ let e = le-greatest n i f first l in omega (arith, ints, clamps, e)
       | inr g ↦ let e : i ≡ n = omega (arith, g, h) in rw e (omega (arith, ints, clamps))
+    ]
+
+-- ---- tests
+-- two tests that hold together
+pub and_true : (a b : Bool) → IsTrue (a && b) → IsTrue a × IsTrue b
+and_true true true t = (t, t)
+and_true true false t = absurd (cc t)
+and_true false b t = absurd (cc t)
+
+-- a test that holds of all holds of each
+pub all_below-at : (n : ℕ) (p : ℕ → Bool) (i : ℕ) → i < n → IsTrue (all_below n p) → IsTrue (p i)
+all_below-at zero p i h t = absurd (omega (arith, h))
+all_below-at (suc n) p i h t =
+    let both = and_true (all_below n p) (p n) t in
+    elim (cases_lt i n) [
+      | inl less ↦ all_below-at n p i less both.0
+      | inr more ↦ let e : i ≡ n = omega (arith, h, more) in rw e both.1
+    ]
+
+-- a test that holds of each number below n holds of all
+pub all_below-from : (n : ℕ) (p : ℕ → Bool) → ((i : ℕ) → i < n → IsTrue (p i)) → IsTrue (all_below n p)
+all_below-from zero p h = refl
+all_below-from (suc n) p h = both (all_below n p) (p n) (all_below-from n p (λ i l. h i (omega (arith, l)))) (h n (omega arith))
+  where
+    both : (a b : Bool) → IsTrue a → IsTrue b → IsTrue (a && b)
+    both true b t u = u
+    both false b t u = t
+
+-- a test that holds below m holds below a lesser number
+pub all_below-less : (n m : ℕ) (p : ℕ → Bool) → n ≤ m → IsTrue (all_below m p) → IsTrue (all_below n p)
+all_below-less n m p h t = all_below-from n p (λ i l. all_below-at m p i (omega (arith, h, l)) t)
+
+-- a test that holds below n and at n holds below n + 1
+pub all_below-more : (n : ℕ) (p : ℕ → Bool) → all_below n p ≡ true → p n ≡ true → all_below (n + 1) p ≡ true
+all_below-more n p h k = rw (add-one n, h) k
+
+-- two tests that are the same everywhere are the same of all
+pub all_below-same : (n : ℕ) (p q : ℕ → Bool) → ((i : ℕ) → p i ≡ q i) → all_below n p ≡ all_below n q
+all_below-same zero p q h = refl
+all_below-same (suc n) p q h = rw (all_below-same n p q h, h n) refl
+
+-- two tests of which the second fails don't hold together
+pub and_false : (b : Bool) → (b && false) ≡ false
+and_false true = refl
+and_false false = refl
+
+-- a test that fails somewhere doesn't hold of all
+pub all_below-fails : (n : ℕ) (p : ℕ → Bool) (i : ℕ) → i < n → p i ≡ false → all_below n p ≡ false
+all_below-fails zero p i h f = absurd (omega (arith, h))
+all_below-fails (suc n) p i h f =
+    elim (cases_lt i n) [
+      | inl less ↦ rw (all_below-fails n p i less f) refl
+      | inr more ↦ let e : n ≡ i = omega (arith, h, more) in rw (e, f) (and_false (all_below i p))
     ]

@@ -7,9 +7,10 @@ pub use Rattle.log_laws.proofs.Ring.{floor_over-le, lt-floor_over, le-ceil_over,
 pub use Rattle.log_laws.proofs.Powers.{pow-mul, pow_pos_of, one-pow, le_of_pow-le}
 pub use Rattle.log_laws.proofs.Wide.{back}
 pub use Rattle.log_laws.proofs.Indexed.{sum_below-add, sum_below-none, sum_below-scaled, sum_below-scaled_same, sum_below-less, le-sum_below}
--- ---- sums, least and greatest values, as loops make them
+-- ---- sums, least and greatest values, and tests of all, as loops make them
 pub use Rattle.log_laws.proofs.Adding.{sum_below-more, sum_below-fewer, sum-none, sum-more, sum-next, sum-read}
 pub use Rattle.log_laws.proofs.Adding.{least-none, least-more, greatest-none, greatest-more, greatest-next, greatest-first, least-le, le-greatest}
+pub use Rattle.log_laws.proofs.Adding.{and_true, and_false, all_below-at, all_below-from, all_below-less, all_below-more, all_below-same, all_below-fails}
 -- ---- the value of a fraction as a difference of whole numbers over a third
 pub use Rattle.log_laws.proofs.Parts.{IsParts, product_pos, parts_self, parts_ratio, parts_one, parts_negated, parts_sum, parts_sum_at, parts_product, parts_respelled, parts_of_same}
 pub use Rattle.log_laws.proofs.Parts.{same_of_parts, at_most_of_parts, parts_of_at_most}

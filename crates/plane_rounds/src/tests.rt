@@ -4,34 +4,10 @@ ghost use Rattle.std.specs.Prelude.{◌≡◌, ◌≤◌, ◌<◌, ◌^◌};
 
 use super::*;
 use arrayvec::ArrayVec;
-use case_types::{Case, Letters, Name, Outcome, Phase, Row, SLOTS, Split, adds_up};
+use case_types::{Letters, Outcome, Phase, SLOTS, Split, adds_up};
 use pr_params::params;
+use sample_cases::like_components;
 use std::test::Fail;
-
-/// A component at its critical point.
-fn critical_case() -> Case
-    ensures { result.n ≡ 1 }
-{
-    let name = Name {
-        len: 0,
-        bytes: [0; 16],
-    };
-    let row = Row {
-        name,
-        tc: 300_000,
-        pc: 1_000_000,
-        w: 0,
-    };
-    Case {
-        n: 1,
-        rows: [row; SLOTS],
-        k: [[0; SLOTS]; SLOTS],
-        z: [1, 0, 0, 0],
-        total: 1,
-        t: 300_000,
-        p: 1_000_000,
-    }
-}
 
 /// Twice the feed of one part, in one phase.
 fn with_two_parts(packing: u64) -> Split
@@ -51,7 +27,7 @@ type Energies = (i128, i128, i128, i128);
 
 #[test]
 fn flashes_critical_point(rt: HostRuntime) -> Result<(), Fail> {
-    let case = critical_case();
+    let case = like_components(1);
     let params = params(&case).ok().ok_or("no parameters")?;
     // The budget, the units, how the flash ends, and its energies where they are known.
     let cases: [(u32, u32, Outcome, Option<Energies>); 3] = [

@@ -8,7 +8,7 @@ use Rattle.std.proofs.Math.Nat.{mul-le-mul_left, mul-le-mul_right, le_of_mul-le-
 use Rattle.log_laws.specs.Between.{Ends}
 use Rattle.log_laws.specs.Sums.{all_below}
 use Rattle.log_laws.specs.Whole.{floor_over, ceil_over}
-use Rattle.log_laws.proofs.Exports.{ceil_over-pos, floor_over-le, le-ceil_over}
+use Rattle.log_laws.proofs.Exports.{ceil_over-pos, floor_over-le, le-ceil_over, all_below-at, and_true}
 use Rattle.case_types.specs.declared.cases.Case.{Case}
 use Rattle.case_types.specs.CaseWords.{critical_temperature, critical_pressure}
 use Rattle.case_types.specs.Faults.{fault_of, covolumes_in_range, covolumes_are_near}
@@ -17,8 +17,8 @@ use Rattle.case_types.specs.Tables.{ends_at, ends_of_pair}
 use Rattle.pr_params.proofs.Accepted.{floor_positive, ceiling_positive, product_positive, bare_positive, bare_high_positive}
 use Rattle.pr_params.proofs.AllMeans.{AreUsable}
 use Rattle.pr_params.proofs.AtComponents.{covolume_at, attraction_at, bare_attraction_at, alpha_root_at}
-use Rattle.pr_params.proofs.Below.{all_below_at, or_else_none}
-use Rattle.pr_params.proofs.Component.{and_true, at_most}
+use Rattle.pr_params.proofs.Below.{or_else_none}
+use Rattle.pr_params.proofs.Component.{at_most}
 use Rattle.pr_params.proofs.Components.{component_at, den_positive_at}
 use Rattle.pr_params.proofs.GreatestLift.{lift_greatest, true_of}
 use Rattle.pr_params.proofs.ParametersHold.{alpha_large}
@@ -115,9 +115,9 @@ near_at : (c : Case) (i j : ℕ) → fault_of c ≡ None → i < c.n → j < c.n
 unfolding fault_of
 near_at c i j e h k =
     let near = true_of (covolumes_are_near c) (or_where _ _ _ (or_else_none _ _ e).1).0 in
-    let row = all_below_at c.n (λ i. all_below c.n (λ j. nat_le (critical_temperature c j * critical_pressure c i) (critical_temperature c i * critical_pressure c j * 1024))) i h near in
+    let row = all_below-at c.n (λ i. all_below c.n (λ j. nat_le (critical_temperature c j * critical_pressure c i) (critical_temperature c i * critical_pressure c j * 1024))) i h near in
     at_most (critical_temperature c j * critical_pressure c i) (critical_temperature c i * critical_pressure c j * 1024)
-    (all_below_at c.n (λ j. nat_le (critical_temperature c j * critical_pressure c i) (critical_temperature c i * critical_pressure c j * 1024)) j k row)
+    (all_below-at c.n (λ j. nat_le (critical_temperature c j * critical_pressure c i) (critical_temperature c i * critical_pressure c j * 1024)) j k row)
 
 raised_order : (p t l ti pi tj pj : ℕ) → 0 < pj → 16 * (5000 * pj * t) ≤ 389 * p * tj * l → tj * pi ≤ ti * pj * 1024 → 5000 * pi * t ≤ 389 * p * ti * l * 64
 raised_order p t l ti pi tj pj some h k =
@@ -148,7 +148,7 @@ covolume_least c i e h =
 pub covolume_most : (c : Case) (i : ℕ) → fault_of c ≡ None → i < c.n → (ends_at (numbers_of c).covolumes i).hi ≤ℤ pos (2 ^ 61)
 covolume_most c i e h =
     let g = lift_greatest c e in
-    let fits = at_most (num_at c i * 2 ^ lift_of c) (32 * den_at c i) (all_below_at c.n (λ i. fits_lifted c (lift_of c) i) i h g.fits) in
+    let fits = at_most (num_at c i * 2 ^ lift_of c) (32 * den_at c i) (all_below-at c.n (λ i. fits_lifted c (lift_of c) i) i h g.fits) in
     let high = ceiling_high (num_at c i) (den_at c i) (lift_of c) (den_positive_at c i h) fits in
     rw (covolume_at c i h, ceil_over-pos (num_at c i * 2 ^ (56 + lift_of c)) (den_at c i) (den_positive_at c i h)) (omega (arith, ints, high))
 

@@ -1,58 +1,11 @@
 -- What a test, a list and a search over the numbers below n say of one of them.
-use Rattle.std.proofs.Common.{◌≡◌, ℕ, zero, suc, ◌+◌, ◌<◌, ◌≤◌, Bool, true, false, ◌&&◌, IsTrue, [], ◌∷◌, length, get_or, Option, None, Some, refl, ◌∙◌, ap, arith, inl, inr, length-append, add-one, ℤ, pos, max}
+use Rattle.std.proofs.Common.{◌≡◌, ℕ, zero, suc, ◌+◌, ◌<◌, [], ◌∷◌, length, get_or, Option, None, Some, refl, ◌∙◌, ap, arith, inl, inr, length-append, add-one, ℤ, pos, max}
 use Rattle.std.proofs.lemmas.Int.{ints, clamps}
 use Rattle.std.proofs.lemmas.Bool.{cases_lt}
 use Rattle.std.proofs.lemmas.List.{get_or_append_left}
 use Rattle.std.proofs.Math.Seq.{get_or-append_seam}
 use Rattle.case_types.specs.Faults.{or_else, first_below}
-use Rattle.log_laws.specs.Sums.{all_below, list_below, greatest_below}
-use Rattle.pr_params.proofs.Component.{and_true}
-
--- a test that holds of all holds of each
-pub all_below_at : (n : ℕ) (p : ℕ → Bool) (i : ℕ) → i < n → IsTrue (all_below n p) → IsTrue (p i)
-all_below_at zero p i h t = absurd (omega (arith, h))
-all_below_at (suc n) p i h t =
-    let both = and_true (all_below n p) (p n) t in
-    elim (cases_lt i n) [
-      | inl less ↦ all_below_at n p i less both.0
-      | inr more ↦ let e : i ≡ n = omega (arith, h, more) in rw e both.1
-    ]
-
--- a test that holds of each number below n holds of all
-pub all_below_from : (n : ℕ) (p : ℕ → Bool) → ((i : ℕ) → i < n → IsTrue (p i)) → IsTrue (all_below n p)
-all_below_from zero p h = refl
-all_below_from (suc n) p h = both (all_below n p) (p n) (all_below_from n p (λ i l. h i (omega (arith, l)))) (h n (omega arith))
-  where
-    both : (a b : Bool) → IsTrue a → IsTrue b → IsTrue (a && b)
-    both true b t u = u
-    both false b t u = t
-
--- a test that holds below m holds below a lesser number
-pub all_below_less : (n m : ℕ) (p : ℕ → Bool) → n ≤ m → IsTrue (all_below m p) → IsTrue (all_below n p)
-all_below_less n m p h t = all_below_from n p (λ i l. all_below_at m p i (omega (arith, h, l)) t)
-
--- a test that holds below n and at n holds below n + 1
-pub all_below_more : (n : ℕ) (p : ℕ → Bool) → all_below n p ≡ true → p n ≡ true → all_below (n + 1) p ≡ true
-all_below_more n p h k = rw (add-one n, h) k
-
--- two tests that are the same everywhere are the same of all
-pub all_below_same : (n : ℕ) (p q : ℕ → Bool) → ((i : ℕ) → p i ≡ q i) → all_below n p ≡ all_below n q
-all_below_same zero p q h = refl
-all_below_same (suc n) p q h = rw (all_below_same n p q h, h n) refl
-
--- two tests of which the second fails don't hold together
-pub and_false : (b : Bool) → (b && false) ≡ false
-and_false true = refl
-and_false false = refl
-
--- a test that fails somewhere doesn't hold of all
-pub all_below_fails : (n : ℕ) (p : ℕ → Bool) (i : ℕ) → i < n → p i ≡ false → all_below n p ≡ false
-all_below_fails zero p i h f = absurd (omega (arith, h))
-all_below_fails (suc n) p i h f =
-    elim (cases_lt i n) [
-      | inl less ↦ rw (all_below_fails n p i less f) refl
-      | inr more ↦ let e : n ≡ i = omega (arith, h, more) in rw (e, f) (and_false (all_below i p))
-    ]
+use Rattle.log_laws.specs.Sums.{list_below, greatest_below}
 
 -- a list over the numbers below n has n items
 length-list_below : {X : Type 0} → (n : ℕ) (f : ℕ → X) → length (list_below n f) ≡ n

@@ -1,13 +1,13 @@
 -- The range of the co-volumes of a case and their lift, as they are tested.
 use Rattle.std.proofs.Common.{◌≡◌, ℕ, zero, suc, ◌-◌, ◌*◌, ◌^◌, ◌<◌, ◌≤◌, true, false, ◌&&◌, not, nat_le, IsTrue, refl, ap, arith}
+use Rattle.log_laws.proofs.Exports.{all_below-same, all_below-at, and_true}
 use Rattle.case_types.specs.declared.cases.Case.{Case}
 use Rattle.case_types.specs.CaseWords.{critical_temperature, critical_pressure}
 use Rattle.case_types.specs.Faults.{covolumes_in_range}
 use Rattle.case_types.specs.Numbers.{lift_of, lift_up_to, fits_lifted}
 use Rattle.log_laws.specs.Sums.{all_below}
 use Rattle.pr_params.specs.Lifting.{is_tiny}
-use Rattle.pr_params.proofs.Below.{all_below_same, all_below_at}
-use Rattle.pr_params.proofs.Component.{and_true, at_most}
+use Rattle.pr_params.proofs.Component.{at_most}
 use Rattle.pr_params.proofs.GreatestLift.{greatest_up_to}
 
 -- where all co-volumes fit, the lift is found, and elsewhere it is less
@@ -29,7 +29,7 @@ lift_none c = refl
 pub fit_unlifted : (c : Case) → all_below c.n (fits_lifted c 0)
     ≡ all_below c.n (λ i. nat_le (389 * c.p * critical_temperature c i) (32 * (5000 * critical_pressure c i * c.t)))
 fit_unlifted c =
-    all_below_same c.n (fits_lifted c 0) (λ i. nat_le (389 * c.p * critical_temperature c i) (32 * (5000 * critical_pressure c i * c.t)))
+    all_below-same c.n (fits_lifted c 0) (λ i. nat_le (389 * c.p * critical_temperature c i) (32 * (5000 * critical_pressure c i * c.t)))
     (λ i. unlifted (389 * c.p * critical_temperature c i) (32 * (5000 * critical_pressure c i * c.t)))
   where
     unlifted : (x y : ℕ) → nat_le (x * 2 ^ 0) y ≡ nat_le x y
@@ -47,4 +47,4 @@ pub fits_at : (c : Case) (i : ℕ) → IsTrue (covolumes_in_range c) → i < c.n
     389 * c.p * critical_temperature c i * 2 ^ lift_of c ≤ 32 * (5000 * critical_pressure c i * c.t)
 fits_at c i h l =
     at_most (389 * c.p * critical_temperature c i * 2 ^ lift_of c) (32 * (5000 * critical_pressure c i * c.t))
-    (all_below_at c.n (fits_lifted c (lift_of c)) i l (greatest_up_to c 29 (unlifted c h)).fits)
+    (all_below-at c.n (fits_lifted c (lift_of c)) i l (greatest_up_to c 29 (unlifted c h)).fits)

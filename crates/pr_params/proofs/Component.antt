@@ -1,13 +1,7 @@
 -- What tests of order say, and the ranges of a component.
-use Rattle.std.proofs.Common.{ℕ, ◌≤◌, Bool, true, false, ◌&&◌, nat_le, IsTrue, ℤ, pos, neg_ℤ, ◌≤ℤ◌, arith}
+use Rattle.std.proofs.Common.{ℕ, ◌≤◌, nat_le, IsTrue, ℤ, pos, neg_ℤ, ◌≤ℤ◌, arith}
 use Rattle.std.specs.Prelude.{int_le}
 use Rattle.std.proofs.lemmas.Int.{ints}
-
--- two tests that hold together
-pub and_true : (a b : Bool) → IsTrue (a && b) → IsTrue a × IsTrue b
-and_true true true t = (t, t)
-and_true true false t = absurd (cc t)
-and_true false b t = absurd (cc t)
 
 -- what tests of order say
 pub at_most : (a b : ℕ) → IsTrue (nat_le a b) → a ≤ b

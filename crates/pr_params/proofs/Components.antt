@@ -8,16 +8,15 @@ use Rattle.case_types.specs.declared.cases.Case.{Case}
 use Rattle.case_types.specs.CaseWords.{critical_temperature, critical_pressure, acentric_factor, interaction, feed}
 use Rattle.case_types.specs.Ranges.{entry, is_interaction, is_critical_temperature, is_critical_pressure, is_acentric_factor}
 use Rattle.log_laws.specs.Sums.{all_below}
-use Rattle.log_laws.proofs.Exports.{le-sum_below}
-use Rattle.pr_params.proofs.Below.{all_below_at}
-use Rattle.pr_params.proofs.Component.{and_true, at_most, int_at_most, IsComponent}
+use Rattle.log_laws.proofs.Exports.{le-sum_below, all_below-at, and_true}
+use Rattle.pr_params.proofs.Component.{at_most, int_at_most, IsComponent}
 
 -- the ranges of the component hold
 pub component_at : (c : Case) (i : ℕ) → i < c.n → IsComponent (critical_temperature c i) (critical_pressure c i) (acentric_factor c i)
 component_at c i h =
-    let tc = and_true _ _ (all_below_at c.n (λ i. is_critical_temperature (critical_temperature c i)) i h c.tc_range) in
-    let pc = and_true _ _ (all_below_at c.n (λ i. is_critical_pressure (critical_pressure c i)) i h c.pc_range) in
-    let w = and_true _ _ (all_below_at c.n (λ i. is_acentric_factor (acentric_factor c i)) i h c.w_range) in
+    let tc = and_true _ _ (all_below-at c.n (λ i. is_critical_temperature (critical_temperature c i)) i h c.tc_range) in
+    let pc = and_true _ _ (all_below-at c.n (λ i. is_critical_pressure (critical_pressure c i)) i h c.pc_range) in
+    let w = and_true _ _ (all_below-at c.n (λ i. is_acentric_factor (acentric_factor c i)) i h c.w_range) in
     record {
       tc_low = at_most _ _ tc.0;
       tc_high = at_most _ _ tc.1;
@@ -41,8 +40,8 @@ pair_of c i j h g =
     let g' : j < 4 = omega (arith, g, few) in
     let place : ℕ → ℕ → Bool = λ i j. is_interaction (entry k i j) && int_le (entry k i j) (entry k j i) in
     let rows = (and_true (all_below 4 (λ i. all_below 4 (λ j. place i j))) (all_below 4 (λ i. int_le (entry k i i) (pos 0) && int_le (pos 0) (entry k i i))) c.interactions).0 in
-    let row = all_below_at 4 (λ i. all_below 4 (λ j. place i j)) i h' rows in
-    let pair = and_true (is_interaction (entry k i j)) (int_le (entry k i j) (entry k j i)) (all_below_at 4 (λ j. place i j) j g' row) in
+    let row = all_below-at 4 (λ i. all_below 4 (λ j. place i j)) i h' rows in
+    let pair = and_true (is_interaction (entry k i j)) (int_le (entry k i j) (entry k j i)) (all_below-at 4 (λ j. place i j) j g' row) in
     let range = and_true (int_le (neg_ℤ (pos 5000)) (entry k i j)) (int_le (entry k i j) (pos 5000)) pair.0 in
     record {
       low = int_at_most (neg_ℤ (pos 5000)) (entry k i j) range.0;
@@ -79,7 +78,7 @@ den_positive_at c i h =
 
 -- each component has a part of the feed
 pub feed_at : (c : Case) (i : ℕ) → i < c.n → 1 ≤ feed c i
-feed_at c i h = at_most 1 (feed c i) (all_below_at c.n (λ i. nat_le 1 (slice_index c.z i)) i h c.live)
+feed_at c i h = at_most 1 (feed c i) (all_below-at c.n (λ i. nat_le 1 (slice_index c.z i)) i h c.live)
 
 pub total_positive : (c : Case) → 0 < c.total
 total_positive c =

@@ -1,14 +1,14 @@
 -- The lift of a case that breaks no range is the greatest with which every co-volume fits.
 use Rattle.std.proofs.Common.{◌≡◌, ℕ, zero, suc, ◌*◌, ◌^◌, Bool, true, false, not, cond, nat_le, nat_lt, IsTrue, refl, arith, inl, inr, None}
 use Rattle.std.proofs.lemmas.Bool.{cases_lt}
+use Rattle.log_laws.proofs.Exports.{all_below-at, all_below-from, and_true}
 use Rattle.case_types.specs.declared.cases.Case.{Case}
 use Rattle.case_types.specs.CaseWords.{critical_temperature, critical_pressure}
 use Rattle.case_types.specs.Faults.{fault_of, covolumes_in_range}
 use Rattle.case_types.specs.Numbers.{lift_up_to, lift_of, fits_lifted}
 use Rattle.log_laws.specs.Sums.{all_below}
 use Rattle.pr_params.specs.Kept.{IsGreatestLift}
-use Rattle.pr_params.proofs.Below.{all_below_at, all_below_from}
-use Rattle.pr_params.proofs.Component.{and_true, at_most}
+use Rattle.pr_params.proofs.Component.{at_most}
 use Rattle.pr_params.proofs.Faulted.{le_yes}
 use Rattle.pr_params.proofs.Sizes.{or_where}
 
@@ -23,8 +23,8 @@ unfolding fault_of
 fits_unlifted c e =
     let range = true_of (covolumes_in_range c) (or_where _ _ _ e).0 in
     let small = (and_true (all_below c.n (λ i. nat_le (389 * c.p * critical_temperature c i) (32 * (5000 * critical_pressure c i * c.t)))) (not (all_below c.n (λ i. nat_lt (389 * c.p * critical_temperature c i * 2 ^ 24) (5000 * critical_pressure c i * c.t)))) range).0 in
-    all_below_from c.n (λ i. fits_lifted c 0 i)
-    (λ i l. at_one (389 * c.p * critical_temperature c i) (32 * (5000 * critical_pressure c i * c.t)) (all_below_at c.n _ i l small))
+    all_below-from c.n (λ i. fits_lifted c 0 i)
+    (λ i l. at_one (389 * c.p * critical_temperature c i) (32 * (5000 * critical_pressure c i * c.t)) (all_below-at c.n _ i l small))
   where
     at_one : (x y : ℕ) → IsTrue (nat_le x y) → IsTrue (nat_le (x * 2 ^ 0) y)
     at_one x y h = le_yes (x * 2 ^ 0) y (let p = at_most x y h in omega (arith, p))

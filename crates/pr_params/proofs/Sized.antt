@@ -7,7 +7,7 @@ use borrow.Author.Differences.{le_out, at_most_in, product_is}
 use Rattle.log_laws.specs.Between.{Ends, IsBetween}
 use Rattle.log_laws.specs.Fraction.{Fraction, IsFraction, product_of}
 use Rattle.log_laws.specs.LogSum.{IsPositive}
-use Rattle.log_laws.proofs.Exports.{product_pos, ≤ℤ_trans}
+use Rattle.log_laws.proofs.Exports.{product_pos, ≤ℤ_trans, all_below-at}
 use Rattle.case_types.specs.declared.cases.Case.{Case}
 use Rattle.case_types.specs.declared.cells.BoxX.{BoxX}
 use Rattle.case_types.specs.Bounds.{Box, covolume_range}
@@ -19,7 +19,6 @@ use Rattle.case_types.specs.Instances.{Instance}
 use Rattle.case_types.specs.Parameters.{attraction}
 use Rattle.log_laws.specs.Sums.{fraction_sum_below}
 use Rattle.pr_params.proofs.Argument.{positive_between}
-use Rattle.pr_params.proofs.Below.{all_below_at}
 use Rattle.pr_params.proofs.Pull.{by_natural}
 use Rattle.pr_params.proofs.Lambda.{two_ends}
 
@@ -49,14 +48,14 @@ scale_split l = let k : 56 + l ≡ 40 + (16 + l) = omega arith in ap (λ (x : �
 
 -- each entry is at most the limit
 pub each_up_to : (n : ℕ) (xs : List ℕ) (limit : ℕ) → IsTrue (is_each_up_to n xs limit) → (i : ℕ) → i < n → slice_index xs i ≤ limit
-each_up_to n xs limit h i l = at_most (slice_index xs i) limit (all_below_at n (λ i. nat_le (slice_index xs i) limit) i l h)
+each_up_to n xs limit h i l = at_most (slice_index xs i) limit (all_below-at n (λ i. nat_le (slice_index xs i) limit) i l h)
   where
     at_most : (a b : ℕ) → IsTrue (nat_le a b) → a ≤ b
     at_most a b h = grind (arith, h)
 
 -- each entry is at most that of the other list
 pub each_at_most : (n : ℕ) (xs ys : List ℕ) → IsTrue (is_each_at_most n xs ys) → (i : ℕ) → i < n → slice_index xs i ≤ slice_index ys i
-each_at_most n xs ys h i l = at_most (slice_index xs i) (slice_index ys i) (all_below_at n (λ i. nat_le (slice_index xs i) (slice_index ys i)) i l h)
+each_at_most n xs ys h i l = at_most (slice_index xs i) (slice_index ys i) (all_below-at n (λ i. nat_le (slice_index xs i) (slice_index ys i)) i l h)
   where
     at_most : (a b : ℕ) → IsTrue (nat_le a b) → a ≤ b
     at_most a b h = grind (arith, h)

@@ -8,8 +8,9 @@ use crate::making::params;
 use crate::numbers::Params;
 use crate::sample_numbers::ACCEPTED;
 use crate::samples::{Component, Ends, Mixture, REFUSED, Wanted};
-use case_types::{Case, Name, PAIRS, Row, SLOTS};
+use case_types::{Case, PAIRS, Row, SLOTS};
 use fix_interval::Iv;
+use sample_cases::{equal_parts, nameless};
 use std::test::Fail;
 
 /// A component, if its numbers are in their ranges.
@@ -22,11 +23,7 @@ pub fn row_of(component: Component) -> Option<Row>
     if tc < 5_000 || tc > 1_500_000 || pc < 100_000 || pc > 50_000_000 || w < -5_000 || w > 15_000 {
         return None;
     }
-    let name = Name {
-        len: 0,
-        bytes: [0; 16],
-    };
-    Some(Row { name, tc, pc, w })
+    Some(nameless(tc, pc, w))
 }
 
 /// Four components, if their numbers are in their ranges.
@@ -76,15 +73,9 @@ fn case_of(mixture: &Mixture) -> Option<Case> {
     if n < 1 || n > 4 || t < 50_000 || t > 1_500_000 || p < 1_000 || p > 100_000_000 {
         return None;
     }
-    Some(Case {
-        n,
-        rows: rows_of(&components)?,
-        k: table_of(&k)?,
-        z: [1; SLOTS],
-        total: n as u32,
-        t,
-        p,
-    })
+    let rows = rows_of(&components)?;
+    let interactions = table_of(&k)?;
+    Some(equal_parts(n, rows, interactions, t, p))
 }
 
 /// The ends of an enclosure.

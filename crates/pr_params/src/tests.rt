@@ -8,6 +8,7 @@ use crate::numbers::Params;
 use crate::readers::{attraction_of, covolume_of, greatest_of};
 use crate::samples::Ends;
 use case_types::{Case, ParamFault, SLOTS};
+use sample_cases::equal_parts;
 use std::test::Fail;
 
 /// The critical temperature in mK and pressure in Pa, the acentric factor in 1e-4, the temperature in mK and the pressure
@@ -381,15 +382,7 @@ fn case_of(conditions: Conditions) -> Option<Case>
         return None;
     }
     let row = row_of((tc, pc, w))?;
-    Some(Case {
-        n: 1,
-        rows: [row; SLOTS],
-        k: [[0; SLOTS]; SLOTS],
-        z: [1, 0, 0, 0],
-        total: 1,
-        t,
-        p,
-    })
+    Some(equal_parts(1, [row; SLOTS], [[0; SLOTS]; SLOTS], t, p))
 }
 
 /// The ends of the attraction without alpha.

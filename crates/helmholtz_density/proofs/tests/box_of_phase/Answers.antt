@@ -1,12 +1,6 @@
 use Rattle.std.proofs.Common.{slice_index, arith}
-use Rattle.log_laws.proofs.Exports.{le-sum_below, sum_below-fewer}
+use Rattle.log_laws.proofs.Exports.{sum_below-fewer}
 use Rattle.helmholtz_density.proofs.tests.box_of_phase.Goals as goal
-
-pub phase_box-requires-clause-some : goal.phase_box-requires-clause-some
-phase_box-requires-clause-some c =
-    let n = c.like_components.ensures in
-    let first = le-sum_below c.like_components.result.n 0 (slice_index c.args.parts) (omega (arith, n, c.requires.some)) in
-    omega (arith, first)
 
 pub phase_box-requires-clause-small : goal.phase_box-requires-clause-small
 phase_box-requires-clause-small c =

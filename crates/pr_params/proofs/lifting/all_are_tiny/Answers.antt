@@ -1,14 +1,14 @@
 use Rattle.std.proofs.Common.{◌≡◌, sym, ◌∙◌, arith}
-use Rattle.pr_params.proofs.Below.{all_below_more, all_below_fails}
+use Rattle.log_laws.proofs.Exports.{all_below-more, all_below-fails}
 use Rattle.pr_params.specs.Lifting.{is_tiny}
 use Rattle.pr_params.proofs.lifting.all_are_tiny.Goals as goal
 
 pub returns-then-not-tiny : goal.returns-then-not-tiny
 returns-then-not-tiny c =
-    sym (all_below_fails c.args.case.now.n (is_tiny c.args.case.now) c.loop-i.i c.loop-i-test.true (sym c.tiny.ensures ∙ c.if-not-tiny.true))
+    sym (all_below-fails c.args.case.now.n (is_tiny c.args.case.now) c.loop-i.i c.loop-i-test.true (sym c.tiny.ensures ∙ c.if-not-tiny.true))
 
 pub loop-i-preserved : goal.loop-i-preserved
-loop-i-preserved c = all_below_more c.loop-i.i (is_tiny c.args.case.now) c.loop-i.invariant (sym c.tiny.ensures ∙ c.if-not-tiny.false)
+loop-i-preserved c = all_below-more c.loop-i.i (is_tiny c.args.case.now) c.loop-i.invariant (sym c.tiny.ensures ∙ c.if-not-tiny.false)
 
 pub returns : goal.returns
 returns c =

@@ -1,14 +1,14 @@
 use Rattle.std.proofs.Common.{◌≡◌, sym, ◌∙◌, arith}
-use Rattle.pr_params.proofs.Below.{all_below_more, all_below_fails}
+use Rattle.log_laws.proofs.Exports.{all_below-more, all_below-fails}
 use Rattle.case_types.specs.Numbers.{fits_lifted}
 use Rattle.pr_params.proofs.lifting.all_fit.Goals as goal
 
 pub returns-then-not-fits : goal.returns-then-not-fits
 returns-then-not-fits c =
-    sym (all_below_fails c.args.case.now.n (fits_lifted c.args.case.now c.args.lift) c.loop-i.i c.loop-i-test.true (sym c.fits.ensures ∙ c.if-not-fits.true))
+    sym (all_below-fails c.args.case.now.n (fits_lifted c.args.case.now c.args.lift) c.loop-i.i c.loop-i-test.true (sym c.fits.ensures ∙ c.if-not-fits.true))
 
 pub loop-i-preserved : goal.loop-i-preserved
-loop-i-preserved c = all_below_more c.loop-i.i (fits_lifted c.args.case.now c.args.lift) c.loop-i.invariant (sym c.fits.ensures ∙ c.if-not-fits.false)
+loop-i-preserved c = all_below-more c.loop-i.i (fits_lifted c.args.case.now c.args.lift) c.loop-i.invariant (sym c.fits.ensures ∙ c.if-not-fits.false)
 
 pub returns : goal.returns
 returns c =

@@ -1,7 +1,7 @@
 use Rattle.std.proofs.Common.{◌≡◌, ℕ, zero, suc, ◌≤◌, [], ◌∷◌, nat_le, slice_index, refl, arith}
 use Rattle.log_laws.specs.Sums.{sum_below}
-use Rattle.pr_params.proofs.Below.{all_below_less}
-use Rattle.helmholtz_density.proofs.tests.like_components.Goals as goal
+use Rattle.log_laws.proofs.Exports.{all_below-less}
+use Rattle.sample_cases.proofs.cases.equal_parts.Goals as goal
 
 -- up to four parts of 1 add up to their number
 ones_added : (n : ℕ) → n ≤ 4 → sum_below n (slice_index (1 ∷ 1 ∷ 1 ∷ 1 ∷ [])) ≡ n
@@ -19,15 +19,15 @@ invariant_of-result c =
     record {
       some = c.requires.some;
       few = few;
-      tc_range = all_below_less n 4 _ few refl;
-      pc_range = all_below_less n 4 _ few refl;
-      w_range = all_below_less n 4 _ few refl;
-      interactions = refl;
-      live = all_below_less n 4 (λ i. nat_le 1 (slice_index (1 ∷ 1 ∷ 1 ∷ 1 ∷ []) i)) few refl;
+      tc_range = all_below-less n 4 _ few c.requires.tc;
+      pc_range = all_below-less n 4 _ few c.requires.pc;
+      w_range = all_below-less n 4 _ few c.requires.w;
+      interactions = c.requires.interactions;
+      live = all_below-less n 4 (λ i. nat_le 1 (slice_index (1 ∷ 1 ∷ 1 ∷ 1 ∷ []) i)) few refl;
       added = ones_added n few;
       total_high = omega (arith, few);
-      t_low = omega arith;
-      t_high = omega arith;
-      p_low = omega arith;
-      p_high = omega arith;
+      t_low = c.requires.t_low;
+      t_high = c.requires.t_high;
+      p_low = c.requires.p_low;
+      p_high = c.requires.p_high;
     }
