@@ -1,15 +1,27 @@
 -- The mixing term and the volume term as the code computes them.
 use Rattle.std.proofs.Common.{◌≡◌, ◌≢◌, ℕ, false, ◌==◌, ◌*◌, ◌<◌, ◌^◌, ◌≤◌, ℤ, pos, neg_ℤ, ◌*ℤ◌, unsigned_abs, refl, sym, arith, lit<}
 use Rattle.std.proofs.lemmas.Int.{ints}
-use Rattle.log_laws.specs.Squaring.{log_up}
+use lib.Count.{count_leading_zeros}
+use Rattle.log_laws.specs.Squaring.{log_up, up}
 use Rattle.log_laws.specs.Whole.{floor_div, ceil_div, ceil_quotient}
 use Rattle.log_laws.proofs.Exports.{ceil_over-pos, floor_over-le, lt-floor_over}
-use Rattle.case_types.specs.Bounds.{mixing_up}
+use Rattle.case_types.specs.Bounds.{one, mixing_up}
 
 -- no fraction adds nothing
 pub mixing_none : (a b : ℕ) → b ≡ 0 → mixing_up a b ≡ pos 0
 unfolding mixing_up
 mixing_none a b e = rw e refl
+
+-- nor does a fraction of at most 1
+log_of_whole : log_up one 40 ≡ pos 0
+unfolding log_up up count_leading_zeros
+log_of_whole = refl
+
+pub mixing_whole : (a b : ℕ) → b ≡ one → mixing_up a b ≡ pos 0
+unfolding mixing_up
+mixing_whole a b e =
+    let m : pos a *ℤ pos 0 ≡ pos 0 = omega (arith, ints) in
+    rw (e, log_of_whole, m) refl
 
 -- the test of 0 fails elsewhere
 differs : (b : ℕ) → b ≢ 0 → (b == 0) ≡ false

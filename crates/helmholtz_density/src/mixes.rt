@@ -8,6 +8,9 @@ ghost use Rattle.case_types.specs.Bounds.{mixing_up};
 use case_types::BoxX;
 use log_enclose::log2_hi;
 
+/// 1 in 2^-40.
+pub const ONE: u64 = 1 << 40;
+
 /// The sum of the mixing terms of the first `n` components, at most, in 2^-40.
 pub fn entropy(n: u8, x: &BoxX) -> i128
     requires { n ≤ 4 }
@@ -30,14 +33,14 @@ fn mixing_at(x: &BoxX, i: u8) -> i128
     mixing(x.a[i as usize], x.b[i as usize])
 }
 
-/// The mixing term `x log2 x` of a fraction from `a` to `b` in 2^-40, at most.
+/// The mixing term `x log2 x` of a fraction from `a` to `b` in 2^-40, at most. It is 0 where `b` is 0 or 1.
 fn mixing(a: u64, b: u64) -> i128
     requires ordered { a ≤ b }
     requires inside { b ≤ 2 ^ 40 }
     ensures value { result ≡ mixing_up a b }
     ensures small { unsigned_abs result ≤ a * 2 ^ 6 }
 {
-    if b == 0 {
+    if b == 0 || b == ONE {
         return 0;
     }
     ceiling(part(a, log2_hi(b as u128, 40)))

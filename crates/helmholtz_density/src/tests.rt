@@ -4,13 +4,10 @@ ghost use Rattle.std.specs.Prelude.{◌≡◌, ◌≤◌};
 
 use super::*;
 use crate::compositions::moles;
-use crate::mixes::entropy;
+use crate::mixes::{ONE, entropy};
 use case_types::{BoxX, Phase, SLOTS};
 use sample_cases::like_components;
 use std::test::Fail;
-
-/// 1 in 2^-40.
-const ONE: u64 = 1 << 40;
 
 /// A half in 2^-40.
 const HALF: u64 = 1 << 39;

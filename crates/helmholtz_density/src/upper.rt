@@ -10,15 +10,12 @@ ghost use Rattle.case_types.specs.Holding.{IsInBox};
 ghost use Rattle.case_types.specs.Instances.{Instance, IsInstance};
 ghost use Rattle.pr_params.specs.Boxes.{box_of};
 
-use crate::mixes::entropy;
+use crate::mixes::{ONE, entropy};
 use crate::pulls::pull;
 use crate::pushes::push;
 use case_types::BoxX;
 use log_enclose::{log2_hi, log2_lo};
 use pr_params::{Params, b_range, g_lo};
-
-/// 1 in 2^-40.
-const ONE: u64 = 1 << 40;
 
 /// The energy at every composition of the box and at the packing fraction `y` is at most this, in 2^-40 bit.
 pub fn energy_up(params: &Params, x: &BoxX, y: u64) -> i128

@@ -10,15 +10,13 @@ ghost use Rattle.case_types.specs.Holding.{IsInBox};
 ghost use Rattle.case_types.specs.Instances.{Instance, IsInstance};
 ghost use Rattle.pr_params.specs.Boxes.{box_of};
 
+use crate::fractions::ONE;
 use crate::mixes::entropy;
 use crate::pulls::pull;
 use crate::volumes::volume;
 use case_types::BoxX;
 use log_enclose::log2_hi;
 use pr_params::{Params, b_range, g_hi};
-
-/// 1 in 2^-40.
-const ONE: u64 = 1 << 40;
 
 /// The energy at every composition of the box and every packing from `ylo` to `yhi` is at least this, in 2^-40 bit. The
 /// ends may be the same.

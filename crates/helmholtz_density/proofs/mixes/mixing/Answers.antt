@@ -1,12 +1,16 @@
 use Rattle.std.proofs.Common.{◌∙◌, ◌*◌, ◌≤◌, ◌^◌, unsigned_abs, sym, arith}
 use Rattle.std.proofs.lemmas.Int.{ints}
 use Rattle.log_laws.proofs.Exports.{back}
-use Rattle.helmholtz_density.proofs.Terms.{mixing_none, mixing_some, ceiling_small}
+use Rattle.helmholtz_density.proofs.Terms.{mixing_none, mixing_whole, mixing_some, ceiling_small}
 use Rattle.helmholtz_density.proofs.mixes.mixing.Goals as goal
-use Rattle.helmholtz_density.proofs.mixes.mixing.Goals.{After-log2_hi}
+use Rattle.helmholtz_density.proofs.mixes.mixing.Goals.{After-log2_hi, then-b-eq0-via-then-b-eq0, then-b-eq0-via-else-b-eq0+then-b-eq-ONE}
 
 pub returns-then-b-eq0-clause-value : goal.returns-then-b-eq0-clause-value
-returns-then-b-eq0-clause-value c = sym (mixing_none c.args.a c.args.b c.if-b-eq0.true)
+returns-then-b-eq0-clause-value c =
+    elim c.then-b-eq0.branch [
+      | then-b-eq0-via-then-b-eq0 w ↦ sym (mixing_none c.args.a c.args.b w.if-b-eq0.true)
+      | then-b-eq0-via-else-b-eq0+then-b-eq-ONE w ↦ sym (mixing_whole c.args.a c.args.b w.if-b-eq-ONE.true)
+    ]
 
 -- the logarithm of a fraction is small
 log_small : (c : After-log2_hi) → unsigned_abs c.log2_hi.result ≤ 2 ^ 46
