@@ -10,7 +10,7 @@ use crate::sample_numbers::ACCEPTED;
 use crate::samples::{Component, Ends, Mixture, REFUSED, Wanted};
 use case_types::{Case, PAIRS, Row, SLOTS};
 use fix_interval::Iv;
-use sample_cases::{equal_parts, nameless};
+use sample_cases::{NAMELESS, equal_parts};
 use std::test::Fail;
 
 /// A component, if its numbers are in their ranges.
@@ -23,7 +23,12 @@ pub fn row_of(component: Component) -> Option<Row>
     if tc < 5_000 || tc > 1_500_000 || pc < 100_000 || pc > 50_000_000 || w < -5_000 || w > 15_000 {
         return None;
     }
-    Some(nameless(tc, pc, w))
+    Some(Row {
+        name: NAMELESS,
+        tc,
+        pc,
+        w,
+    })
 }
 
 /// Four components, if their numbers are in their ranges.

@@ -7,14 +7,14 @@ ghost use Rattle.case_types.specs.Ranges.{are_interactions, is_acentric_factor, 
 use case_types::{Case, Name, Row, SLOTS};
 
 /// No name.
-const NAMELESS: Name = Name {
+pub const NAMELESS: Name = Name {
     len: 0,
     bytes: [0; 16],
 };
 
 /// A component without a name, from its critical temperature in mK, its critical pressure in Pa and its acentric factor in
 /// 1e-4.
-pub const fn nameless(tc: u32, pc: u32, w: i32) -> Row
+pub fn nameless(tc: u32, pc: u32, w: i32) -> Row
     requires tc { IsTrue (is_critical_temperature tc) }
     requires pc { IsTrue (is_critical_pressure pc) }
     requires w { IsTrue (is_acentric_factor w) }

@@ -5,6 +5,6 @@ mod cases;
 mod mixtures;
 mod planes;
 
-pub use cases::{equal_parts, nameless};
+pub use cases::{NAMELESS, equal_parts};
 pub use mixtures::{ethane_to_benzene, like_components, methane_to_nitrogen};
 pub use planes::plane_of;
