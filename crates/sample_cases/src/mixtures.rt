@@ -1,6 +1,6 @@
 //! Mixtures of up to four components.
 
-ghost use Rattle.std.specs.Prelude.{◌≡◌, ◌≤◌};
+ghost use Rattle.std.specs.Prelude.{◌≡◌, ◌≤◌, [], ◌∷◌, map, pos};
 
 use crate::cases::{equal_parts, nameless};
 use case_types::{Case, SLOTS};
@@ -9,7 +9,13 @@ use case_types::{Case, SLOTS};
 pub fn like_components(n: u8) -> Case
     requires some { 1 ≤ n }
     requires few { n ≤ 4 }
-    ensures { result.n ≡ n }
+    ensures count { result.n ≡ n }
+    ensures parts { result.z ≡ 1 ∷ 1 ∷ 1 ∷ 1 ∷ [] }
+    ensures tc { map (λ r. r.tc) result.rows ≡ 300000 ∷ 300000 ∷ 300000 ∷ 300000 ∷ [] }
+    ensures pc { map (λ r. r.pc) result.rows ≡ 1000000 ∷ 1000000 ∷ 1000000 ∷ 1000000 ∷ [] }
+    ensures w { map (λ r. r.w) result.rows ≡ pos 0 ∷ pos 0 ∷ pos 0 ∷ pos 0 ∷ [] }
+    ensures t { result.t ≡ 300000 }
+    ensures p { result.p ≡ 1000000 }
 {
     let critical = nameless(300_000, 1_000_000, 0);
     equal_parts(
@@ -25,7 +31,13 @@ pub fn like_components(n: u8) -> Case
 pub fn methane_to_nitrogen(n: u8) -> Case
     requires some { 1 ≤ n }
     requires few { n ≤ 4 }
-    ensures { result.n ≡ n }
+    ensures count { result.n ≡ n }
+    ensures parts { result.z ≡ 1 ∷ 1 ∷ 1 ∷ 1 ∷ [] }
+    ensures tc { map (λ r. r.tc) result.rows ≡ 190564 ∷ 369830 ∷ 617700 ∷ 126200 ∷ [] }
+    ensures pc { map (λ r. r.pc) result.rows ≡ 4599200 ∷ 4248000 ∷ 2110000 ∷ 3400000 ∷ [] }
+    ensures w { map (λ r. r.w) result.rows ≡ pos 114 ∷ pos 1523 ∷ pos 4923 ∷ pos 372 ∷ [] }
+    ensures t { result.t ≡ 300000 }
+    ensures p { result.p ≡ 5000000 }
 {
     let rows = [
         nameless(190_564, 4_599_200, 114),
@@ -46,7 +58,13 @@ pub fn methane_to_nitrogen(n: u8) -> Case
 pub fn ethane_to_benzene(n: u8) -> Case
     requires some { 1 ≤ n }
     requires few { n ≤ 4 }
-    ensures { result.n ≡ n }
+    ensures count { result.n ≡ n }
+    ensures parts { result.z ≡ 1 ∷ 1 ∷ 1 ∷ 1 ∷ [] }
+    ensures tc { map (λ r. r.tc) result.rows ≡ 305320 ∷ 425120 ∷ 304128 ∷ 562050 ∷ [] }
+    ensures pc { map (λ r. r.pc) result.rows ≡ 4872000 ∷ 3796000 ∷ 7377300 ∷ 4895000 ∷ [] }
+    ensures w { map (λ r. r.w) result.rows ≡ pos 995 ∷ pos 2002 ∷ pos 2239 ∷ pos 2103 ∷ [] }
+    ensures t { result.t ≡ 350000 }
+    ensures p { result.p ≡ 4000000 }
 {
     let rows = [
         nameless(305_320, 4_872_000, 995),
