@@ -1,5 +1,5 @@
 -- What the program is asked of itself.
-use Rattle.std.specs.Prelude.{ℕ, List, [], ◌∷◌, Bool, false, codes}
+use Rattle.std.specs.Prelude.{ℕ, List, [], ◌∷◌, Bool, false, ◌||◌, codes}
 use Rattle.std.specs.Str.{bytes_eq}
 
 -- the only word is `--help` or `--version`
