@@ -1,18 +1,19 @@
 -- A search so far: what is written, with any visits that finish the cells on the stack, is a tree.
-use Rattle.std.proofs.Common.{◌≡◌, ℕ, zero, suc, ◌+◌, ◌^◌, ◌⊎◌, List, [], ◌∷◌, ◌++◌, map, ℤ, pos, neg_ℤ, unsigned_abs, ◌≤◌, ◌≤ℤ◌, ◌<ℤ◌, IsFalse, IsTrue, ◌==◌, slice_set, if◌then◌else◌, Bool, true, false, cond, inl, inr, Some, refl, sym, ap, ◌∙◌, append_assoc, arith}
+use Rattle.std.proofs.Common.{◌≡◌, ℕ, zero, suc, ◌+◌, ◌^◌, ◌⊎◌, List, [], ◌∷◌, ◌++◌, map, ℤ, pos, neg_ℤ, unsigned_abs, ◌≤◌, ◌≤ℤ◌, ◌<ℤ◌, IsFalse, IsTrue, ◌==◌, slice_set, if◌then◌else◌, Bool, true, false, cond, inl, inr, Option, Some, None, refl, sym, ap, ◌∙◌, append_assoc, arith}
 use Rattle.std.proofs.lemmas.Int.{ints}
 use Rattle.std.proofs.lemmas.List.{append-nil, map-append}
-use Rattle.pr_params.proofs.Alpha.{abs_within}
 use Rattle.case_types.specs.declared.cells.Cell.{Cell}
-use Rattle.case_types.specs.Cells.{Region, region_of, root_region, lower_half, upper_half, misses, packing_edge, cut, Mark, Misses, Plain, Sloped, Tree, Leaf, Node, Step, Ends, Halves, Visit, visits, letter_of, letters_of, HasVisit, plain_low}
-use Rattle.case_types.specs.Numbers.{Numbers}
-use Rattle.case_types.specs.Searches.{EachVisit, HaveCauses, HasStepCause, IsStepOver, IsStepAt, IsLeastLow, HasLeastLow, HasEndCause, WantsUnit, IsGrainOf, left_visit, closing, edges_in}
-use Rattle.case_types.proofs.Cover.{total, has-left, has-right}
-use Rattle.case_types.proofs.Walks.{each-append, each_over_less, edges-append}
-use Rattle.box_search.specs.declared.found.Found.{Found}
-use Rattle.box_search.specs.declared.found.Found.TheVariants.{AllClear, Refuted, Spent, Grain}
-use Rattle.box_search.specs.Found.{search_end, units_of}
+use Rattle.case_types.specs.Grid.Cells.{Region, region_of, root_region, lower_half, upper_half, misses, packing_edge, cut, Mark, Misses, Plain, Sloped, Tree, Leaf, Node, Step, Ends, Halves, Visit, visits, letter_of, letters_of, HasVisit}
+use Rattle.case_types.specs.Grid.Visits.{EachVisit, left_visit, edges_in}
+use Rattle.case_types.proofs.Exports.{total, has-left, has-right, each-append, edges-append}
+use Rattle.energy_surface.proofs.Exports.{each_over_less}
+use Rattle.energy_surface.specs.declared.found.Found.{Found}
+use Rattle.energy_surface.specs.declared.found.Found.TheVariants.{Spent, Grain}
+use Rattle.box_search.specs.Found.{units_of}
 use Rattle.box_search.specs.Written.{IsLeastFrom, Closes, Searches}
+use Rattle.energy_surface.specs.Surfaces.{Surface, Under, plain_low}
+use Rattle.energy_surface.specs.Searches.{HaveCauses, HasStepCause, IsStepOver, IsStepAt, IsLeastLow, HasLeastLow, HasEndCause, WantsUnit, IsGrainOf, closing, low_of}
+use Rattle.log_laws.proofs.Exports.{abs_within}
 
 -- ---- the visits of one tree for each cell, in turn
 unfoldable pub Finishes : List Region → List Visit → Type 0
@@ -48,8 +49,8 @@ plain_visit r = record { region = r; step = Ends Plain }
 abbrev pub missing_visit : Region → Visit
 missing_visit r = record { region = r; step = Ends Misses }
 
-pub plain_at : (p : Numbers) (lam : List ℤ) (low : ℤ) (r : Region) → low ≡ plain_low p lam r → IsStepAt p lam low r (Ends Plain)
-plain_at p lam low r e = ap Some (sym e)
+pub plain_at : (s : Surface) (lam : List ℤ) (low : ℤ) (r : Region) → low ≡ plain_low s lam r → IsStepAt s lam low r (Ends Plain)
+plain_at s lam low r e = ap Some (sym e)
 
 -- ---- the lesser of two numbers
 -- no low of a cell is above this
@@ -100,30 +101,30 @@ some_leaf n (Node edge lower upper) r vs m h =
     some_leaf n lower (lower_half edge r) (visits upper (upper_half edge r) ++ vs) (lower_meets n (edge == packing_edge) r (cut r edge) (slice_set r.hi edge (cut r edge)) m) (rw (← append_assoc (visits lower (lower_half edge r)) (visits upper (upper_half edge r)) vs) h.1)
 
 -- a leaf has the low, or there is no leaf
-abbrev pub IsReached : Numbers → List ℤ → ℤ → List Visit → Type 0
-IsReached p lam low before =
-    HasVisit (λ v. IsStepAt p lam low v.region v.step) before ⊎ ((low ≡ highest) × EachVisit (λ v. HasNoLow p.count v.region v.step) before)
+abbrev pub IsReached : Surface → List ℤ → ℤ → List Visit → Type 0
+IsReached s lam low before =
+    HasVisit (λ v. IsStepAt s lam low v.region v.step) before ⊎ ((low ≡ highest) × EachVisit (λ v. HasNoLow s.count v.region v.step) before)
 
-pub record SoFar (p : Numbers) (lam : List ℤ) (delta : ℤ) (old now : List ℕ) (units : ℕ) (low : ℤ) (stack : List Region) : Type 0 where
+pub record SoFar (u : Under) (old now : List ℕ) (units : ℕ) (low : ℤ) (stack : List Region) : Type 0 where
   pub before : List Visit
   pub written : now ≡ old ++ letters_of before
-  pub caused : HaveCauses p lam delta before
-  pub grows : (rest : List Visit) → Finishes stack rest → (t : Tree) × (visits t (root_region p.count) ≡ before ++ rest)
+  pub caused : HaveCauses u before
+  pub grows : (rest : List Visit) → Finishes stack rest → (t : Tree) × (visits t (root_region u.surface.count) ≡ before ++ rest)
   pub units_are : units ≡ edges_in (letters_of before)
-  pub over : EachVisit (λ v. IsStepOver p lam low v.region v.step) before
-  pub reached : IsReached p lam low before
+  pub over : EachVisit (λ v. IsStepOver u.surface u.plane low v.region v.step) before
+  pub reached : IsReached u.surface u.plane low before
 
 start_tree : (r : Region) (rest : List Visit) → Finishes (r ∷ []) rest → (t : Tree) × (visits t r ≡ [] ++ rest)
 unfolding Finishes
 start_tree r rest f = (f.0, sym (f.2 ∙ ap (λ vs. visits f.0 r ++ vs) f.3 ∙ append-nil (visits f.0 r)))
 
-pub begins : (p : Numbers) (lam : List ℤ) (delta : ℤ) (old : List ℕ) (units : ℕ) (stack : List Region) → stack ≡ root_region p.count ∷ [] → units ≡ 0 →
-    SoFar p lam delta old old units highest stack
-begins p lam delta old units stack e none = record {
+pub begins : (u : Under) (old : List ℕ) (units : ℕ) (stack : List Region) → stack ≡ root_region u.surface.count ∷ [] → units ≡ 0 →
+    SoFar u old old units highest stack
+begins u old units stack e none = record {
   before = [];
   written = sym (append-nil old);
   caused = tt;
-  grows = λ rest f. start_tree (root_region p.count) rest (rw e at f);
+  grows = λ rest f. start_tree (root_region u.surface.count) rest (rw e at f);
   units_are = none;
   over = tt;
   reached = inr (refl, tt);
@@ -135,53 +136,53 @@ pub written_more : (old now next : List ℕ) (before : List Visit) (v : Visit) �
 written_more old now next before v e f = rw (map-append, ← append_assoc old (letters_of before) (letter_of v.step ∷ []), ← e) f
 
 -- the least low with one leaf more
-reached_more : (p : Numbers) (lam : List ℤ) (low next : ℤ) (before : List Visit) (r : Region) → IsLesser low (plain_low p lam r) next → plain_low p lam r ≤ℤ highest →
-    IsReached p lam low before →
-    HasVisit (λ v. IsStepAt p lam next v.region v.step) (before ++ plain_visit r ∷ [])
-reached_more p lam low next before r lesser small old =
-    elim (lesser_is low (plain_low p lam r) next lesser) [
+reached_more : (s : Surface) (lam : List ℤ) (low next : ℤ) (before : List Visit) (r : Region) → IsLesser low (plain_low s lam r) next → plain_low s lam r ≤ℤ highest →
+    IsReached s lam low before →
+    HasVisit (λ v. IsStepAt s lam next v.region v.step) (before ++ plain_visit r ∷ [])
+reached_more s lam low next before r lesser small old =
+    elim (lesser_is low (plain_low s lam r) next lesser) [
       | inr here ↦ now here
       | inl same ↦ elim old [
-        | inl there ↦ has-left (λ v. IsStepAt p lam next v.region v.step) before (plain_visit r ∷ []) (rw same there)
+        | inl there ↦ has-left (λ v. IsStepAt s lam next v.region v.step) before (plain_visit r ∷ []) (rw same there)
         | inr none ↦ now (omega (arith, ints, same, none.0, small, lesser.1))
       ]
     ]
   where
-    now : next ≡ plain_low p lam r → HasVisit (λ v. IsStepAt p lam next v.region v.step) (before ++ plain_visit r ∷ [])
-    now e = has-right (λ v. IsStepAt p lam next v.region v.step) before (plain_visit r ∷ []) (inl (plain_at p lam next r e))
+    now : next ≡ plain_low s lam r → HasVisit (λ v. IsStepAt s lam next v.region v.step) (before ++ plain_visit r ∷ [])
+    now e = has-right (λ v. IsStepAt s lam next v.region v.step) before (plain_visit r ∷ []) (inl (plain_at s lam next r e))
 
 -- a cell is cleared
-pub stands : (p : Numbers) (lam : List ℤ) (delta low next : ℤ) (old now new : List ℕ) (units : ℕ) (r : Region) (stack below : List Region) →
-    stack ≡ r ∷ below → new ≡ now ++ 112 ∷ [] → HasStepCause p lam delta r (Ends Plain) → IsLesser low (plain_low p lam r) next → plain_low p lam r ≤ℤ highest →
-    SoFar p lam delta old now units low stack → SoFar p lam delta old new units next below
-stands p lam delta low next old now new units r stack below e f clear lesser small h = record {
+pub stands : (u : Under) (low next : ℤ) (old now new : List ℕ) (units : ℕ) (r : Region) (stack below : List Region) →
+    stack ≡ r ∷ below → new ≡ now ++ 112 ∷ [] → HasStepCause u r (Ends Plain) → IsLesser low (plain_low u.surface u.plane r) next → plain_low u.surface u.plane r ≤ℤ highest →
+    SoFar u old now units low stack → SoFar u old new units next below
+stands u low next old now new units r stack below e f clear lesser small h = record {
   before = h.before ++ plain_visit r ∷ [];
   written = written_more old now new h.before (plain_visit r) h.written f;
-  caused = each-append (λ v. HasStepCause p lam delta v.region v.step) h.before (plain_visit r ∷ []) h.caused (clear, tt);
+  caused = each-append (λ v. HasStepCause u v.region v.step) h.before (plain_visit r ∷ []) h.caused (clear, tt);
   grows = λ rest k. rw append_assoc (h.grows (plain_visit r ∷ rest) (rw e (finish_leaf Plain r below rest k)));
   units_are = let z = edges-append (letters_of h.before) (112 ∷ []) in rw map-append (omega (arith, z, h.units_are));
-  over = each-append (λ v. IsStepOver p lam next v.region v.step) h.before (plain_visit r ∷ []) (each_over_less p lam low next lesser.0 h.before h.over) (lesser.1, tt);
-  reached = inl (reached_more p lam low next h.before r lesser small h.reached);
+  over = each-append (λ v. IsStepOver u.surface u.plane next v.region v.step) h.before (plain_visit r ∷ []) (each_over_less u.surface u.plane low next lesser.0 h.before h.over) (lesser.1, tt);
+  reached = inl (reached_more u.surface u.plane low next h.before r lesser small h.reached);
 }
 
-reached_halved : (p : Numbers) (lam : List ℤ) (low : ℤ) (before : List Visit) (u : Visit) → HasNoLow p.count u.region u.step →
-    IsReached p lam low before →
-    IsReached p lam low (before ++ u ∷ [])
-reached_halved p lam low before u h (inl there) = inl (has-left (λ v. IsStepAt p lam low v.region v.step) before (u ∷ []) there)
-reached_halved p lam low before u h (inr none) = inr (none.0, each-append (λ v. HasNoLow p.count v.region v.step) before (u ∷ []) none.1 (h, tt))
+reached_halved : (s : Surface) (lam : List ℤ) (low : ℤ) (before : List Visit) (u : Visit) → HasNoLow s.count u.region u.step →
+    IsReached s lam low before →
+    IsReached s lam low (before ++ u ∷ [])
+reached_halved s lam low before u h (inl there) = inl (has-left (λ v. IsStepAt s lam low v.region v.step) before (u ∷ []) there)
+reached_halved s lam low before u h (inr none) = inr (none.0, each-append (λ v. HasNoLow s.count v.region v.step) before (u ∷ []) none.1 (h, tt))
 
 -- a cell holds no composition
-pub passes : (p : Numbers) (lam : List ℤ) (delta low : ℤ) (old now new : List ℕ) (units : ℕ) (r : Region) (stack below : List Region) →
-    stack ≡ r ∷ below → new ≡ now ++ 109 ∷ [] → IsTrue (misses p.count r) →
-    SoFar p lam delta old now units low stack → SoFar p lam delta old new units low below
-passes p lam delta low old now new units r stack below e f miss h = record {
+pub passes : (u : Under) (low : ℤ) (old now new : List ℕ) (units : ℕ) (r : Region) (stack below : List Region) →
+    stack ≡ r ∷ below → new ≡ now ++ 109 ∷ [] → IsTrue (misses u.surface.count r) →
+    SoFar u old now units low stack → SoFar u old new units low below
+passes u low old now new units r stack below e f miss h = record {
   before = h.before ++ missing_visit r ∷ [];
   written = written_more old now new h.before (missing_visit r) h.written f;
-  caused = each-append (λ v. HasStepCause p lam delta v.region v.step) h.before (missing_visit r ∷ []) h.caused (miss, tt);
+  caused = each-append (λ v. HasStepCause u v.region v.step) h.before (missing_visit r ∷ []) h.caused (miss, tt);
   grows = λ rest k. rw append_assoc (h.grows (missing_visit r ∷ rest) (rw e (finish_leaf Misses r below rest k)));
   units_are = let z = edges-append (letters_of h.before) (109 ∷ []) in rw map-append (omega (arith, z, h.units_are));
-  over = each-append (λ v. IsStepOver p lam low v.region v.step) h.before (missing_visit r ∷ []) h.over (miss, tt);
-  reached = reached_halved p lam low h.before (missing_visit r) miss h.reached;
+  over = each-append (λ v. IsStepOver u.surface u.plane low v.region v.step) h.before (missing_visit r ∷ []) h.over (miss, tt);
+  reached = reached_halved u.surface u.plane low h.before (missing_visit r) miss h.reached;
 }
 
 -- the letter of a halving is one of an edge
@@ -193,19 +194,19 @@ one_edge (suc (suc (suc zero))) h = refl
 one_edge (suc (suc (suc (suc edge)))) h = absurd (omega (arith, h))
 
 -- a cell is halved along an edge
-pub halves : (p : Numbers) (lam : List ℤ) (delta low : ℤ) (old now new : List ℕ) (units more edge : ℕ) (r : Region) (stack below next : List Region) → edge ≤ 3 →
-    stack ≡ r ∷ below → next ≡ lower_half edge r ∷ upper_half edge r ∷ below → new ≡ now ++ letter_of (Halves edge) ∷ [] → HasStepCause p lam delta r (Halves edge) → more ≡ units + 1 →
-    SoFar p lam delta old now units low stack → SoFar p lam delta old new more low next
-halves p lam delta low old now new units more edge r stack below next inside e e2 f cause one h =
-    let u : Visit = record { region = r; step = Halves edge } in
+pub halves : (u : Under) (low : ℤ) (old now new : List ℕ) (units more edge : ℕ) (r : Region) (stack below next : List Region) → edge ≤ 3 →
+    stack ≡ r ∷ below → next ≡ lower_half edge r ∷ upper_half edge r ∷ below → new ≡ now ++ letter_of (Halves edge) ∷ [] → HasStepCause u r (Halves edge) → more ≡ units + 1 →
+    SoFar u old now units low stack → SoFar u old new more low next
+halves u low old now new units more edge r stack below next inside e e2 f cause one h =
+    let here : Visit = record { region = r; step = Halves edge } in
     record {
-      before = h.before ++ u ∷ [];
-      written = written_more old now new h.before u h.written f;
-      caused = each-append (λ v. HasStepCause p lam delta v.region v.step) h.before (u ∷ []) h.caused (cause, tt);
-      grows = λ rest k. rw append_assoc (h.grows (u ∷ rest) (rw e (finish_halved edge r below rest (rw e2 at k))));
+      before = h.before ++ here ∷ [];
+      written = written_more old now new h.before here h.written f;
+      caused = each-append (λ v. HasStepCause u v.region v.step) h.before (here ∷ []) h.caused (cause, tt);
+      grows = λ rest k. rw append_assoc (h.grows (here ∷ rest) (rw e (finish_halved edge r below rest (rw e2 at k))));
       units_are = let z = edges-append (letters_of h.before) (letter_of (Halves edge) ∷ []) in rw map-append (omega (arith, z, one_edge edge inside, h.units_are, one));
-      over = each-append (λ v. IsStepOver p lam low v.region v.step) h.before (u ∷ []) h.over (tt, tt);
-      reached = reached_halved p lam low h.before u tt h.reached;
+      over = each-append (λ v. IsStepOver u.surface u.plane low v.region v.step) h.before (here ∷ []) h.over (tt, tt);
+      reached = reached_halved u.surface u.plane low h.before here tt h.reached;
     }
 
 -- ---- the end
@@ -214,19 +215,19 @@ left_plain : (n : ℕ) (r : Region) → IsFalse (misses n r) → left_visit n r 
 left_plain n r h = rw h refl
 
 -- the low of a search that leaves cells
-pub low_left : (p : Numbers) (lam : List ℤ) (low mid least : ℤ) (hand : Region) (rest : List Region) → IsFalse (misses p.count hand) → IsLesser low (plain_low p lam hand) mid →
-    plain_low p lam hand <ℤ highest → IsLeastFrom p lam mid least (map (left_visit p.count) rest) →
-    (before : List Visit) → EachVisit (λ v. IsStepOver p lam low v.region v.step) before → IsReached p lam low before →
-    IsLeastLow p lam least (before ++ map (left_visit p.count) (hand ∷ rest))
-low_left p lam low mid least hand rest meets lesser small h before over reached = rw left_is record {
-  over = each-append (λ v. IsStepOver p lam least v.region v.step) before (plain_visit hand ∷ map (left_visit p.count) rest)
-      (each_over_less p lam low least (omega (arith, ints, lesser.0, h.lower)) before over) (omega (arith, ints, lesser.1, h.lower), h.over);
+pub low_left : (s : Surface) (lam : List ℤ) (low mid least : ℤ) (hand : Region) (rest : List Region) → IsFalse (misses s.count hand) → IsLesser low (plain_low s lam hand) mid →
+    plain_low s lam hand <ℤ highest → IsLeastFrom s lam mid least (map (left_visit s.count) rest) →
+    (before : List Visit) → EachVisit (λ v. IsStepOver s lam low v.region v.step) before → IsReached s lam low before →
+    IsLeastLow s lam least (before ++ map (left_visit s.count) (hand ∷ rest))
+low_left s lam low mid least hand rest meets lesser small h before over reached = rw left_is record {
+  over = each-append (λ v. IsStepOver s lam least v.region v.step) before (plain_visit hand ∷ map (left_visit s.count) rest)
+      (each_over_less s lam low least (omega (arith, ints, lesser.0, h.lower)) before over) (omega (arith, ints, lesser.1, h.lower), h.over);
   reached = elim h.reached [
-    | inr there ↦ has-right P before (plain_visit hand ∷ map (left_visit p.count) rest) (inr there)
-    | inl same ↦ elim (lesser_is low (plain_low p lam hand) mid lesser) [
-      | inr here ↦ has-right P before (plain_visit hand ∷ map (left_visit p.count) rest) (inl (plain_at p lam least hand (same ∙ here)))
+    | inr there ↦ has-right P before (plain_visit hand ∷ map (left_visit s.count) rest) (inr there)
+    | inl same ↦ elim (lesser_is low (plain_low s lam hand) mid lesser) [
+      | inr here ↦ has-right P before (plain_visit hand ∷ map (left_visit s.count) rest) (inl (plain_at s lam least hand (same ∙ here)))
       | inl old ↦ elim reached [
-        | inl there ↦ has-left P before (plain_visit hand ∷ map (left_visit p.count) rest) (rw (same, old) there)
+        | inl there ↦ has-left P before (plain_visit hand ∷ map (left_visit s.count) rest) (rw (same, old) there)
         | inr none ↦ absurd (omega (arith, ints, old, none.0, small, lesser.1))
       ]
     ]
@@ -234,17 +235,17 @@ low_left p lam low mid least hand rest meets lesser small h before over reached 
 }
   where
     P : Visit → Type 0
-    P = λ v. IsStepAt p lam least v.region v.step
+    P = λ v. IsStepAt s lam least v.region v.step
 
-    left_is : map (left_visit p.count) (hand ∷ rest) ≡ plain_visit hand ∷ map (left_visit p.count) rest
-    left_is = ap (λ v. v ∷ map (left_visit p.count) rest) (left_plain p.count hand meets)
+    left_is : map (left_visit s.count) (hand ∷ rest) ≡ plain_visit hand ∷ map (left_visit s.count) rest
+    left_is = ap (λ v. v ∷ map (left_visit s.count) rest) (left_plain s.count hand meets)
 
 -- the low of a search that clears every cell
-pub low_clear : (p : Numbers) (lam : List ℤ) (low : ℤ) (t : Tree) (r : Region) (before : List Visit) → IsFalse (misses p.count r) → visits t r ≡ before ++ [] →
-    EachVisit (λ v. IsStepOver p lam low v.region v.step) before → IsReached p lam low before → IsLeastLow p lam low (before ++ [])
-low_clear p lam low t r before m e over (inl there) = rw (append-nil before) record { over = over; reached = there }
-low_clear p lam low t r before m e over (inr none) =
-    absurd (some_leaf p.count t r [] m (rw (append-nil (visits t r), e, append-nil before) none.1))
+pub low_clear : (s : Surface) (lam : List ℤ) (low : ℤ) (t : Tree) (r : Region) (before : List Visit) → IsFalse (misses s.count r) → visits t r ≡ before ++ [] →
+    EachVisit (λ v. IsStepOver s lam low v.region v.step) before → IsReached s lam low before → IsLeastLow s lam low (before ++ [])
+low_clear s lam low t r before m e over (inl there) = rw (append-nil before) record { over = over; reached = there }
+low_clear s lam low t r before m e over (inr none) =
+    absurd (some_leaf s.count t r [] m (rw (append-nil (visits t r), e, append-nil before) none.1))
 
 left-edges : (n : ℕ) (left : List Region) → edges_in (letters_of (map (left_visit n) left)) ≡ 0
 left-edges n [] = refl
@@ -254,23 +255,21 @@ left-edges n (r ∷ below) = by_mark (misses n r) (letters_of (map (left_visit n
     by_mark true rest h = h
     by_mark false rest h = h
 
-closing-edges : (n : ℕ) (found : Found) (left : List Region) → edges_in (letters_of (closing n (search_end found) left)) ≡ 0
-closing-edges n (AllClear low) left = left-edges n left
-closing-edges n (Refuted kept) left = refl
-closing-edges n (Spent low) left = left-edges n left
-closing-edges n (Grain low cell) left = left-edges n left
+closing-edges : (n : ℕ) (low : Option ℤ) (left : List Region) → edges_in (letters_of (closing n low left)) ≡ 0
+closing-edges n None left = refl
+closing-edges n (Some low) left = left-edges n left
 
 -- the search ends with some cells left, which get leaf letters or not
-pub ended : (p : Numbers) (lam : List ℤ) (delta low : ℤ) (old now new : List ℕ) (units more : ℕ) (stack left : List Region) (found : Found) →
-    stack ≡ left → HasEndCause p lam delta (search_end found) left → new ≡ now ++ letters_of (closing p.count (search_end found) left) → more ≡ units + units_of found →
-    ((t : Tree) (before : List Visit) → visits t (root_region p.count) ≡ before ++ map (left_visit p.count) left →
-    EachVisit (λ v. IsStepOver p lam low v.region v.step) before → IsReached p lam low before →
-    HasLeastLow p lam (search_end found) (before ++ map (left_visit p.count) left)) →
-    SoFar p lam delta old now units low stack → Searches p lam delta old new more found
-ended p lam delta low old now new units more stack left found e cause f g low_of_walk h =
-    let k : SoFar p lam delta old now units low left = rw e at h in
-    let t = k.grows (map (left_visit p.count) left) (finish_all p.count left) in
-    let closings = closing p.count (search_end found) left in
+pub ended : (u : Under) (low : ℤ) (old now new : List ℕ) (units more : ℕ) (stack left : List Region) (found : Found) →
+    stack ≡ left → HasEndCause u found left → new ≡ now ++ letters_of (closing u.surface.count (low_of found) left) → more ≡ units + units_of found →
+    ((t : Tree) (before : List Visit) → visits t (root_region u.surface.count) ≡ before ++ map (left_visit u.surface.count) left →
+    EachVisit (λ v. IsStepOver u.surface u.plane low v.region v.step) before → IsReached u.surface u.plane low before →
+    HasLeastLow u.surface u.plane (low_of found) (before ++ map (left_visit u.surface.count) left)) →
+    SoFar u old now units low stack → Searches u old new more found
+ended u low old now new units more stack left found e cause f g low_of_walk h =
+    let k : SoFar u old now units low left = rw e at h in
+    let t = k.grows (map (left_visit u.surface.count) left) (finish_all u.surface.count left) in
+    let closings = closing u.surface.count (low_of found) left in
     record {
       own = letters_of (k.before ++ closings);
       written = rw (map-append, ← append_assoc old (letters_of k.before) (letters_of closings), ← k.written) f;
@@ -286,7 +285,7 @@ ended p lam delta low old now new units more stack left found e cause f g low_of
       };
       counted =
           let z = edges-append (letters_of k.before) (letters_of closings) in
-          let none = closing-edges p.count found left in
+          let none = closing-edges u.surface.count (low_of found) left in
           rw map-append (omega (arith, z, none, k.units_are, g));
     }
 
@@ -295,18 +294,18 @@ letters_left : (n : ℕ) (now new : List ℕ) (hand : Region) (rest : List Regio
 letters_left n now new hand rest meets e = rw meets e
 
 -- the search stops at the cell in hand, for want of a unit or since it is of one unit
-pub stops_spent : (p : Numbers) (lam : List ℤ) (delta low mid least : ℤ) (old now new : List ℕ) (units : ℕ) (hand : Region) (stack rest : List Region) →
-    stack ≡ hand ∷ rest → WantsUnit p lam delta hand → Closes p lam mid rest now new least → IsLesser low (plain_low p lam hand) mid → plain_low p lam hand <ℤ highest →
-    SoFar p lam delta old now units low stack → Searches p lam delta old new units (Spent least)
-stops_spent p lam delta low mid least old now new units hand stack rest e cause closes lesser small h =
-    ended p lam delta low old now new units units stack (hand ∷ rest) (Spent least) e cause (letters_left p.count now new hand rest cause.uncleared.meets closes.written) (omega arith)
-    (λ t before k over reached. low_left p lam low mid least hand rest cause.uncleared.meets lesser small closes.lows before over reached) h
+pub stops_spent : (u : Under) (low mid least : ℤ) (old now new : List ℕ) (units : ℕ) (hand : Region) (stack rest : List Region) →
+    stack ≡ hand ∷ rest → WantsUnit u hand → Closes u.surface u.plane mid rest now new least → IsLesser low (plain_low u.surface u.plane hand) mid → plain_low u.surface u.plane hand <ℤ highest →
+    SoFar u old now units low stack → Searches u old new units (Spent least)
+stops_spent u low mid least old now new units hand stack rest e cause closes lesser small h =
+    ended u low old now new units units stack (hand ∷ rest) (Spent least) e cause (letters_left u.surface.count now new hand rest cause.uncleared.meets closes.written) (omega arith)
+    (λ t before k over reached. low_left u.surface u.plane low mid least hand rest cause.uncleared.meets lesser small closes.lows before over reached) h
 
-pub stops_grain : (p : Numbers) (lam : List ℤ) (delta low mid least : ℤ) (old now new : List ℕ) (units : ℕ) (cell : Cell) (stack rest : List Region) →
-    stack ≡ region_of cell ∷ rest → IsGrainOf p lam delta (region_of cell) (region_of cell) → Closes p lam mid rest now new least →
-    IsLesser low (plain_low p lam (region_of cell)) mid → plain_low p lam (region_of cell) <ℤ highest →
-    SoFar p lam delta old now units low stack → Searches p lam delta old new units (Grain least cell)
-stops_grain p lam delta low mid least old now new units cell stack rest e cause closes lesser small h =
-    ended p lam delta low old now new units units stack (region_of cell ∷ rest) (Grain least cell) e cause
-    (letters_left p.count now new (region_of cell) rest cause.stuck.uncleared.meets closes.written) (omega arith)
-    (λ t before k over reached. low_left p lam low mid least (region_of cell) rest cause.stuck.uncleared.meets lesser small closes.lows before over reached) h
+pub stops_grain : (u : Under) (low mid least : ℤ) (old now new : List ℕ) (units : ℕ) (cell : Cell) (stack rest : List Region) →
+    stack ≡ region_of cell ∷ rest → IsGrainOf u (region_of cell) (region_of cell) → Closes u.surface u.plane mid rest now new least →
+    IsLesser low (plain_low u.surface u.plane (region_of cell)) mid → plain_low u.surface u.plane (region_of cell) <ℤ highest →
+    SoFar u old now units low stack → Searches u old new units (Grain least cell)
+stops_grain u low mid least old now new units cell stack rest e cause closes lesser small h =
+    ended u low old now new units units stack (region_of cell ∷ rest) (Grain least cell) e cause
+    (letters_left u.surface.count now new (region_of cell) rest cause.stuck.uncleared.meets closes.written) (omega arith)
+    (λ t before k over reached. low_left u.surface u.plane low mid least (region_of cell) rest cause.stuck.uncleared.meets lesser small closes.lows before over reached) h

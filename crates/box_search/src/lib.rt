@@ -1,13 +1,21 @@
-//! Branch and bound under one tangent plane.
+//! Branch and bound under one tangent plane, of any energy surface.
+//!
+//! A bound of the energy is made of parts. A half of a cell has those that it shares with the cell; the others are made when
+//! the half is looked at.
 #![tactic(auto)]
 
-mod found;
+mod domain;
+mod halves;
+mod looks;
+mod middles;
+mod parts;
+mod planes;
 mod points;
 mod searching;
 mod stack;
 #[cfg(test)]
 mod tests;
 
-pub use found::Found;
+pub use domain::whole_low;
 pub use points::column_at;
 pub use searching::search;

@@ -1,47 +1,59 @@
 //! Columns at grid points.
 
-ghost use Rattle.std.specs.Prelude.{◌≡◌, ◌≤◌, ◌<◌, ◌^◌, ◌↔◌, IsTrue, IsSome, IfSome, IfNone, pos, ◌≤ℤ◌, ◌<ℤ◌, ◌+ℤ◌, ◌*ℤ◌, unsigned_abs, slice_index, slice_index_or};
+ghost use Rattle.std.specs.Prelude.{◌≡◌, ◌≤◌, ◌<◌, ◌^◌, IsSome, IfSome, IfNone, unsigned_abs, slice_index};
 ghost use Rattle.log_laws.specs.Sums.{sum_below};
-ghost use Rattle.log_laws.specs.Whole.{ceil_over, floor_over};
-ghost use Rattle.pr_params.specs.Boxes.{box_of};
-ghost use Rattle.case_types.specs.Bounds.{plane_at};
-ghost use Rattle.case_types.specs.Columns.{IsColumn, point_up, point_of, point_box, plane_at_point};
-ghost use Rattle.case_types.specs.Numbers.{numbers_of};
+ghost use Rattle.log_laws.specs.Whole.{ceil_over};
+ghost use Rattle.case_types.specs.Arithmetic.Bounds.{box_of};
+ghost use Rattle.case_types.specs.Grid.Columns.{IsGridPoint, point_box, point_of};
+ghost use Rattle.energy_surface.specs.Columns.{IsColumn, point_up};
+ghost use Rattle.box_search.specs.Parts.{IsPoint, grid_point};
 
-use case_types::{BoxX, Column, Plane, SLOTS};
-use helmholtz_density::energy_up;
-use pr_params::Params;
+use crate::parts::PointParts;
+use case_types::{BoxX, Column, SLOTS};
+use energy_surface::Surface;
 
 /// 1 in 2^-20.
 const WHOLE: u64 = 1 << 20;
 
-/// The column at a composition, in 2^-20, and a packing, if its upper energy is of size below 2^49, as it is at half the
-/// densest.
-pub fn column_at(params: &Params, comp: [u32; SLOTS], packing: u64) -> Option<Column>
-    requires whole { sum_below params.now.case.n (slice_index comp) ≡ 2 ^ 20 }
-    requires all { sum_below 4 (slice_index comp) ≡ 2 ^ 20 }
-    requires some { 1 ≤ packing }
-    requires inside { packing < 2 ^ 40 }
-    ensures column { IfSome result (λ c. IsColumn (numbers_of params.now.case) c) }
+/// The column at a composition, in 2^-20, and a packing fraction, in 2^-40, if its upper energy is of size below 2^49, as it
+/// is at half the densest packing.
+pub fn column_at<S: Surface>(surface: &S, comp: [u32; SLOTS], packing: u64) -> Option<Column>
+    requires { IsGridPoint (S.bounds surface.now).count (record { composition = comp; packing = packing }) }
+    ensures column { IfSome result (IsColumn (S.bounds surface.now)) }
     ensures comp { IfSome result (λ c. c.comp ≡ comp) }
     ensures packing { IfSome result (λ c. c.packing ≡ packing) }
     ensures at_half { packing ≡ 2 ^ 39 → IsSome result }
-    ensures none { IfNone result (2 ^ 49 ≤ unsigned_abs (point_up (numbers_of params.now.case) (record { composition = comp; packing = packing }))) }
+    ensures none { IfNone result (2 ^ 49 ≤ unsigned_abs (point_up (S.bounds surface.now) (record { composition = comp; packing = packing }))) }
 {
-    let up = energy_up(params, &box_at(comp), packing);
+    let n = surface.count();
+    prove!(n <= SLOTS as u8);
+    let mix = surface.mix_up(&box_at(comp));
+    let logs = surface.logs(packing);
+    column_of(surface, &PointParts { comp, mix, logs })
+}
+
+/// The column at a grid point with its parts, if its upper energy is of size below 2^49.
+pub fn column_of<S: Surface>(surface: &S, point: &PointParts) -> Option<Column>
+    requires { IsPoint (S.is_mix_up surface.now) (S.are_logs surface.now) (S.bounds surface.now).count point.now }
+    ensures column { IfSome result (IsColumn (S.bounds surface.now)) }
+    ensures at { IfSome result (λ c. point_of c ≡ grid_point point.now) }
+    ensures at_half { point.now.logs.packing ≡ 2 ^ 39 → IsSome result }
+    ensures none { IfNone result (2 ^ 49 ≤ unsigned_abs (point_up (S.bounds surface.now) (grid_point point.now))) }
+{
+    let up = surface.up(&point.mix, &point.logs);
     if up.unsigned_abs() >= 1 << 49 {
         return None;
     }
     Some(Column {
-        comp,
-        packing,
+        comp: point.comp,
+        packing: point.logs.packing,
         up: up as i64,
         cost: cost_of(up) as i64,
     })
 }
 
 /// The box of one composition.
-fn box_at(comp: [u32; SLOTS]) -> BoxX
+pub fn box_at(comp: [u32; SLOTS]) -> BoxX
     requires { sum_below 4 (slice_index comp) ≡ 2 ^ 20 }
     ensures { box_of result ≡ point_box comp }
 {
@@ -61,55 +73,4 @@ fn cost_of(up: i128) -> i128
     ensures small { unsigned_abs result ≤ 2 ^ 49 }
 {
     -(-up >> 10)
-}
-
-/// Whether the column lies below the plane by more than `delta`.
-pub fn refutes(n: u8, plane: &Plane, delta: i128, column: &Column) -> bool
-    requires few { n ≤ 4 }
-    requires up { unsigned_abs column.now.up < 2 ^ 49 }
-    requires delta_low { pos 1 ≤ℤ delta }
-    requires delta_high { delta ≤ℤ pos (2 ^ 39) }
-    ensures { IsTrue result ↔ ((column.now.up +ℤ delta) <ℤ plane_at_point n plane.now.lam (point_of column.now)) }
-{
-    (column.up as i128) + delta < plane_on(n, plane, &column.comp)
-}
-
-/// The plane of `n` components at a composition in 2^-20, rounded down to 2^-40 bit.
-fn plane_on(n: u8, plane: &Plane, comp: &[u32; SLOTS]) -> i128
-    requires { n ≤ 4 }
-    ensures value { result ≡ plane_at n plane.now.lam comp.now (2 ^ 20) }
-    ensures small { unsigned_abs result ≤ 2 ^ 114 }
-{
-    let mut sum = 0;
-    for i in 0..n {
-        sum += product(potential(plane, i), comp[i as usize]);
-    }
-    rounded_down(sum)
-}
-
-/// The potential of the component `i`.
-fn potential(plane: &Plane, i: u8) -> i128
-    requires { i < 4 }
-    ensures value { result ≡ slice_index_or plane.now.lam i (pos 0) }
-    ensures small { unsigned_abs result < 2 ^ 80 }
-{
-    plane.lam[i as usize]
-}
-
-/// A potential times a fraction, in 2^-60 bit.
-fn product(potential: i128, fraction: u32) -> i128
-    requires { unsigned_abs potential < 2 ^ 80 }
-    ensures value { result ≡ potential *ℤ pos fraction }
-    ensures small { unsigned_abs result ≤ 2 ^ 112 }
-{
-    potential * fraction as i128
-}
-
-/// A number in 2^-60 bit, rounded down to 2^-40 bit.
-fn rounded_down(z: i128) -> i128
-    requires { unsigned_abs z ≤ 2 ^ 114 }
-    ensures value { result ≡ floor_over z (2 ^ 20) }
-    ensures small { unsigned_abs result ≤ 2 ^ 114 }
-{
-    z >> 20
 }

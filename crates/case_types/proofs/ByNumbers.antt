@@ -1,7 +1,7 @@
 -- The numbers of sample cases.
 use Rattle.std.specs.Prelude.{ℕ, ◌≡◌, [], ◌∷◌, pos, refl}
 use Rattle.case_types.proofs.Samples.{critical_case, ternary_case}
-use Rattle.case_types.specs.Numbers.{numbers_of, enclosures_of, lift_of, lift_up_to}
+use Rattle.case_types.specs.Arithmetic.Numbers.{numbers_of, enclosures_of, lift_of, lift_up_to}
 use Rattle.log_laws.specs.Between.{Ends}
 use Rattle.log_laws.specs.Roots.{root_digits, with_digit}
 use Rattle.log_laws.specs.Sums.{list_below, greatest_below}

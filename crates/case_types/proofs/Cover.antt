@@ -6,9 +6,9 @@ use Rattle.std.proofs.lemmas.Int.{ints}
 use borrow.Author.Differences.{up, down}
 use Rattle.log_laws.specs.Sums.{sum_below, list_below}
 use Rattle.log_laws.proofs.Exports.{sum_below-scaled, sum_below-less, le-sum_below}
-use Rattle.case_types.specs.Bounds.{one}
-use Rattle.case_types.specs.Cells.{Region, root_region, free_sum, misses, packing_edge, cut, lower_half, upper_half, Tree, Leaf, Node, Visit, visits, IsWithin, IsLeafAt, HasVisit, TreesCover}
-use Rattle.case_types.specs.Divisions.{State, IsState, moles}
+use Rattle.case_types.specs.Arithmetic.Bounds.{one}
+use Rattle.case_types.specs.Grid.Cells.{Region, root_region, free_sum, misses, packing_edge, cut, lower_half, upper_half, Tree, Leaf, Node, Visit, visits, IsWithin, IsLeafAt, HasVisit, TreesCover}
+use Rattle.case_types.specs.Energy.Divisions.{State, IsState, moles}
 
 pub has-left : (P : Visit → Type 0) (us vs : List Visit) → HasVisit P us → HasVisit P (us ++ vs)
 has-left P [] vs h = absurd h

@@ -4,10 +4,11 @@ use Rattle.std.proofs.Common.{lit<, arith}
 use Rattle.std.proofs.lemmas.Int.{ints}
 use Rattle.log_laws.specs.Fraction.{Fraction, IsSame, whole, negated, product_of, quotient_of, difference}
 use Rattle.log_laws.specs.LogSum.{Term, ratio}
+use Rattle.case_types.specs.declared.cases.Edition.TheVariants.{Y1976, Y1978}
 use Rattle.case_types.proofs.Samples.{binary_case}
-use Rattle.case_types.specs.Instances.{Instance, HoldsRoot, pair_place}
-use Rattle.case_types.specs.Parameters.{kappa_of, covolume, alpha_root, attraction}
-use Rattle.case_types.specs.Divisions.{State, mean_covolume, mean_attraction, attraction_argument, energy_of}
+use Rattle.case_types.specs.Energy.Instances.{Instance, HoldsRoot, pair_place}
+use Rattle.case_types.specs.Energy.Parameters.{kappa_of, covolume, alpha_root, attraction}
+use Rattle.case_types.specs.Energy.Divisions.{State, mean_covolume, mean_attraction, attraction_argument, energy_of}
 use Rattle.log_laws.specs.Sums.{fraction_sum_below, log_sum_below}
 use Rattle.log_laws.specs.Between.{Ends, IsBetween}
 
@@ -18,11 +19,18 @@ pub pair_order :
 pair_order = refl
 
 -- at w = 1.5 kappa is 2.08071, at w = -0.5 it is -0.46397
-pub kappa_high : kappa_of (pos 15000) ≡ pos (208071 * 10 ^ 8)
+pub kappa_high : kappa_of Y1976 (pos 15000) ≡ pos (208071 * 10 ^ 13)
 kappa_high = refl
 
-pub kappa_low : kappa_of (neg_ℤ (pos 5000)) ≡ neg_ℤ (pos (46397 * 10 ^ 8))
+pub kappa_low : kappa_of Y1976 (neg_ℤ (pos 5000)) ≡ neg_ℤ (pos (46397 * 10 ^ 13))
 kappa_low = refl
+
+-- up to w = 0.49 the editions agree, and above it they differ
+pub kappa_at_the_switch : kappa_of Y1978 (pos 4900) ≡ pos 1065539608000000000
+kappa_at_the_switch = refl
+
+pub kappa_above : kappa_of Y1978 (pos 4923) ≡ pos 1072861305892461022
+kappa_above = refl
 
 -- the lower end of each printed pair of methane and decane
 abbrev pub roots_of_binary : ℕ → Fraction
@@ -46,7 +54,7 @@ lower_instance = record {
 abbrev pub ends : ℕ → ℕ → Ends
 ends lo hi = record { lo = pos lo; hi = pos hi }
 
-pub methane_covolume : covolume binary_case 0 ≡ record { num = pos (389 * 5000000 * 190564); den = 5000 * 4599200 * 300000 }
+pub methane_covolume : covolume binary_case 0 ≡ record { num = pos 370646980000000; den = 6898800000000000 }
 methane_covolume = refl
 
 pub methane_covolume_reduced : IsSame (covolume binary_case 0) (ratio 18532349 344940000)

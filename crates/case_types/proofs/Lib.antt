@@ -1,10 +1,15 @@
 pub mod Cover
 pub mod Walks
-pub mod WorkLaws
-pub mod WeakDuality
+pub mod PlaneBound
+pub mod InBox
+pub mod CellLow
+pub mod BoxOfParts
+pub mod SplitBound
 pub mod Samples
 mod ByNumbers
 mod Refusals
 mod Splits
 mod Trees
 mod Exact
+pub mod States
+pub mod Exports

@@ -4,8 +4,8 @@ use Rattle.log_laws.specs.Squaring.{down, up}
 use Rattle.log_laws.specs.Roots.{root_digits, with_digit}
 use Rattle.case_types.proofs.Samples.{ternary_case, negative_alpha_case, large_covolume_case, large_attraction_case, far_covolumes_case}
 use Rattle.case_types.specs.declared.cases.ParamFault.TheVariants.{BRange, BRatio, MRange, ARange}
-use Rattle.case_types.specs.Faults.{fault_of, first_below}
-use Rattle.case_types.specs.Numbers.{numbers_of, enclosures_of, lift_up_to}
+use Rattle.case_types.specs.Arithmetic.Faults.{fault_of, first_below}
+use Rattle.case_types.specs.Arithmetic.Numbers.{numbers_of, enclosures_of, lift_up_to}
 use Rattle.log_laws.specs.Sums.{list_below, greatest_below, least_below}
 
 pub no_fault : fault_of ternary_case ≡ None

@@ -2,6 +2,7 @@
 use Rattle.std.specs.Prelude.{ℕ, List, [], ◌∷◌, ℤ, pos, neg_ℤ, refl}
 use Rattle.std.proofs.Common.{lit≤}
 use Rattle.case_types.specs.declared.cases.Case.{Case}
+use Rattle.case_types.specs.declared.cases.Edition.TheVariants.{Y1976}
 use Rattle.case_types.specs.declared.cases.Row.{Row}
 use Rattle.case_types.specs.declared.cases.Name.{Name}
 
@@ -30,6 +31,7 @@ critical_case = record {
   total = 1;
   t = 300000;
   p = 1000000;
+  edition = Y1976;
   some = lit≤ tt;
   few = lit≤ tt;
   tc_range = refl;
@@ -64,6 +66,7 @@ binary_case = record {
   total = 2;
   t = 300000;
   p = 5000000;
+  edition = Y1976;
   some = lit≤ tt;
   few = lit≤ tt;
   tc_range = refl;
@@ -89,6 +92,7 @@ ternary_case = record {
   total = 10;
   t = 300000;
   p = 5000000;
+  edition = Y1976;
   some = lit≤ tt;
   few = lit≤ tt;
   tc_range = refl;
@@ -114,6 +118,7 @@ negative_alpha_case = record {
   total = 1;
   t = 1200000;
   p = 1000000;
+  edition = Y1976;
   some = lit≤ tt;
   few = lit≤ tt;
   tc_range = refl;
@@ -139,6 +144,7 @@ large_covolume_case = record {
   total = 1;
   t = 300000;
   p = 100000000;
+  edition = Y1976;
   some = lit≤ tt;
   few = lit≤ tt;
   tc_range = refl;
@@ -164,6 +170,7 @@ large_attraction_case = record {
   total = 1;
   t = 50000;
   p = 100000;
+  edition = Y1976;
   some = lit≤ tt;
   few = lit≤ tt;
   tc_range = refl;
@@ -189,6 +196,7 @@ far_covolumes_case = record {
   total = 2;
   t = 300000;
   p = 100000;
+  edition = Y1976;
   some = lit≤ tt;
   few = lit≤ tt;
   tc_range = refl;
@@ -214,6 +222,7 @@ twin_case = record {
   total = 2;
   t = 300000;
   p = 1000000;
+  edition = Y1976;
   some = lit≤ tt;
   few = lit≤ tt;
   tc_range = refl;
@@ -251,6 +260,7 @@ quaternary_case = record {
   total = 10;
   t = 250000;
   p = 3000000;
+  edition = Y1976;
   some = lit≤ tt;
   few = lit≤ tt;
   tc_range = refl;

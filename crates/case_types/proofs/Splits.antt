@@ -6,17 +6,23 @@ use lib.Count.{count_leading_zeros}
 use Rattle.log_laws.specs.Roots.{root_digits, with_digit}
 use Rattle.log_laws.specs.Squaring.{down, up, log_down, log_up}
 use Rattle.case_types.specs.declared.phases.Phase.{Phase}
-use Rattle.case_types.specs.Bounds.{box_of_parts, covolume_range, ratio_low, ratio_high, lambda_down, lambda_up, mixing_low, mixing_up, volume_low, energy_low, energy_up, phases_up, one}
-use Rattle.case_types.specs.CaseWords.{feed}
-use Rattle.case_types.specs.Divisions.{Division, Divides, State, IsState, parts_in, state_of}
-use Rattle.case_types.specs.Numbers.{numbers_of, enclosures_of, lift_up_to}
+use Rattle.case_types.specs.Arithmetic.Bounds.{box_of_parts, covolume_range, ratio_low, ratio_high, lambda_down, lambda_up, attraction_term_low, attraction_term_high, mixing_low, mixing_up, volume_down, volume_up, volume_low, energy_low, energy_up, one}
+use Rattle.case_types.specs.Energy.Components.{feed}
+use Rattle.case_types.specs.Energy.Divisions.{Division, Divides, State, IsState, parts_in, state_of}
+use Rattle.case_types.specs.Arithmetic.Numbers.{numbers_of, enclosures_of, lift_up_to}
+use Rattle.case_types.specs.Arithmetic.Splits.{phases_up}
 use Rattle.log_laws.specs.Sums.{int_sum_below, list_below, greatest_below, least_below}
 use Rattle.case_types.proofs.Samples.{critical_case, binary_case, twin_case}
 
 -- the component under two names has one bit less
 pub twin_up : energy_up (numbers_of twin_case) (box_of_parts 2 (1 ∷ 1 ∷ 0 ∷ 0 ∷ [])) (2 ^ 38) ≡ energy_up (numbers_of critical_case) (box_of_parts 1 (1 ∷ 0 ∷ 0 ∷ 0 ∷ [])) (2 ^ 38) -ℤ pos one
-unfolding numbers_of enclosures_of lift_up_to list_below greatest_below least_below int_sum_below root_digits with_digit down up log_down log_up covolume_range ratio_low ratio_high lambda_down lambda_up mixing_low mixing_up volume_low energy_low energy_up count_leading_zeros
+unfolding numbers_of enclosures_of lift_up_to list_below greatest_below least_below int_sum_below root_digits with_digit down up log_down log_up covolume_range ratio_low ratio_high lambda_down lambda_up attraction_term_low attraction_term_high mixing_low mixing_up volume_down volume_up volume_low energy_low energy_up count_leading_zeros
 twin_up = refl
+
+-- and so has the low of the box of that one composition at that one packing
+pub twin_low : energy_low (numbers_of twin_case) (box_of_parts 2 (1 ∷ 1 ∷ 0 ∷ 0 ∷ [])) (2 ^ 38) (2 ^ 38) ≡ energy_low (numbers_of critical_case) (box_of_parts 1 (1 ∷ 0 ∷ 0 ∷ 0 ∷ [])) (2 ^ 38) (2 ^ 38) -ℤ pos one
+unfolding numbers_of enclosures_of lift_up_to list_below greatest_below least_below int_sum_below root_digits with_digit down up log_down log_up covolume_range ratio_low ratio_high lambda_down lambda_up attraction_term_low attraction_term_high mixing_low mixing_up volume_down volume_up volume_low energy_low energy_up count_leading_zeros
+twin_low = refl
 
 -- one part methane and one part decane in two phases
 abbrev pub vapour : Phase
@@ -47,6 +53,6 @@ pub one_part_short : Divides binary_case (record { sum = 9; phases = state_of va
 one_part_short h = let e : 8 ≡ 9 = h.adds_up 0 (lit< tt) in absurd (omega (arith, e))
 
 -- the energy of the split is the mean of its phases
-pub split_weighs : phases_up (numbers_of binary_case) 8 (vapour ∷ liquid ∷ []) ≡ neg_ℤ (pos 3441641006412)
-unfolding phases_up numbers_of enclosures_of lift_up_to list_below greatest_below least_below int_sum_below root_digits with_digit down up log_down log_up covolume_range ratio_low ratio_high lambda_down lambda_up mixing_low mixing_up volume_low energy_low energy_up count_leading_zeros
+pub split_weighs : phases_up 2 (energy_up (numbers_of binary_case)) 8 (vapour ∷ liquid ∷ []) ≡ neg_ℤ (pos 3441641006412)
+unfolding phases_up numbers_of enclosures_of lift_up_to list_below greatest_below least_below int_sum_below root_digits with_digit down up log_down log_up covolume_range ratio_low ratio_high lambda_down lambda_up attraction_term_low attraction_term_high mixing_low mixing_up volume_down volume_up volume_low energy_low energy_up count_leading_zeros
 split_weighs = refl

@@ -1,6 +1,6 @@
 -- Small trees of cells, edges to halve, middles and cells that miss.
 use Rattle.std.specs.Prelude.{◌≡◌, [], ◌∷◌, None, true, false, refl}
-use Rattle.case_types.specs.Cells.{Tree, Leaf, Node, Misses, Plain, visits, letters_of, root_region, edge_to_halve, widest_below, misses, midpoint}
+use Rattle.case_types.specs.Grid.Cells.{Tree, Leaf, Node, Misses, Plain, visits, letters_of, root_region, edge_to_halve, widest_below, misses, midpoint}
 use Rattle.log_laws.specs.Sums.{list_below}
 
 abbrev pub small_tree : Tree

@@ -42,7 +42,17 @@ pub struct Row {
     pub w: i32,
 }
 
-/// The live components with their interactions, the conditions and the feed.
+/// Which edition of the equation gives the slope kappa of alpha.
+#[derive(Clone, Copy, Debug, PartialEq, Eq)]
+pub enum Edition {
+    /// Peng and Robinson 1976, at every acentric factor.
+    Y1976,
+    /// Robinson and Peng 1978 at acentric factors above 0.49, and Peng and Robinson 1976 elsewhere. That the formulas switch
+    /// at 0.49 is this project's own choice.
+    Y1978,
+}
+
+/// The live components with their interactions, the conditions, the feed and the edition of the equation.
 ///
 /// Components count from 0 here. Entries past the first `n` have no meaning.
 #[derive(Clone, Copy, Debug, PartialEq, Eq)]
@@ -60,6 +70,8 @@ pub struct Case {
     pub t: u32,
     /// The pressure in Pa.
     pub p: u32,
+    /// The edition of the equation.
+    pub edition: Edition,
     pub ghost some: { 1 ≤ n },
     pub ghost few: { n ≤ 4 },
     pub ghost tc_range: { IsTrue (all_below n (λ i. is_critical_temperature (slice_index (map (λ r. r.tc) rows) i))) },

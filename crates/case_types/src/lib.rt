@@ -11,6 +11,7 @@ mod cases;
 mod cells;
 mod laws;
 mod lists;
+mod parts;
 mod phases;
 mod pivots;
 mod planes;
@@ -19,13 +20,11 @@ mod units;
 
 pub use adding::adds_up;
 pub use answers::{Answer, FlashFault, Outcome, Work};
-pub use cases::{Case, Name, PAIRS, ParamFault, Row, SLOTS};
+pub use cases::{Case, Edition, Name, PAIRS, ParamFault, Row, SLOTS};
 pub use cells::{BoxX, Cell};
-pub use laws::{
-    closed_is_near, columns_are_kept, planes_fall, some_round, spent_has_worked, trees_cover,
-    units_are_work, weak_duality,
-};
+pub use laws::trees_cover;
 pub use lists::{Columns, Letters, Memory, Pivots, Reserved, Rounds};
+pub use parts::{MixLow, MixUp, PackingLogs};
 pub use phases::{Phase, Split};
 pub use pivots::Pivot;
 pub use planes::Plane;

@@ -1,7 +1,9 @@
 -- What is asked, key by key, and what is kept of it.
 use Rattle.std.proofs.Common.{◌≡◌, ℕ, ◌≤◌, List, true, refl}
-use Rattle.std.specs.Prelude.{Option, Some, None, Err, Ok, IfSome, nat_le}
+use Rattle.std.specs.Prelude.{Option, Some, None, Err, Ok, IfSome, nat_le, unwrap_or}
 use Rattle.std.proofs.lemmas.Bool.{and_parts, leb-true}
+use Rattle.case_types.specs.declared.cases.Edition.{Edition}
+use Rattle.case_types.specs.declared.cases.Edition.TheVariants.{Y1976}
 use Rattle.case_words.specs.declared.keys.Key.TheVariants.{T, P, Z, Names, Tol, Budget}
 use Rattle.case_words.specs.declared.faults.WordFault.TheVariants.{Missing}
 use Rattle.case_words.specs.Items.{is_within}
@@ -35,11 +37,11 @@ pub asked-without_budget : (g : Gathered) (t p : ℕ) (z : List ℕ) (names : Li
 unfolding asked_of
 asked-without_budget g t p z names tol is_t is_p is_z is_names is_tol budget = rw (is_t, is_p, is_z, is_names, is_tol, budget) refl
 
-pub asked-whole : (g : Gathered) (t p : ℕ) (z : List ℕ) (names : List (List ℕ)) (tol budget : ℕ) → g.t ≡ Some t → g.p ≡ Some p → g.z ≡ Some z
-    → g.names ≡ Some names → g.tol ≡ Some tol → g.budget ≡ Some budget
-    → asked_of g ≡ Ok (record { t = t; p = p; z = z; names = names; tol = tol; budget = budget })
+pub asked-whole : (g : Gathered) (t p : ℕ) (z : List ℕ) (names : List (List ℕ)) (tol budget : ℕ) (edition : Edition) → g.t ≡ Some t → g.p ≡ Some p → g.z ≡ Some z
+    → g.names ≡ Some names → g.tol ≡ Some tol → g.budget ≡ Some budget → edition ≡ unwrap_or g.edition Y1976
+    → asked_of g ≡ Ok (record { t = t; p = p; z = z; names = names; tol = tol; budget = budget; edition = edition })
 unfolding asked_of
-asked-whole g t p z names tol budget is_t is_p is_z is_names is_tol is_budget = rw (is_t, is_p, is_z, is_names, is_tol, is_budget) refl
+asked-whole g t p z names tol budget edition is_t is_p is_z is_names is_tol is_budget is_edition = rw (is_t, is_p, is_z, is_names, is_tol, is_budget, is_edition) refl
 
 -- ---- what is kept of what there is
 pub some-kept : {X : Type 0} (o : Option X) (x : X) (Q : X → Type 0) → o ≡ Some x → IfSome o Q → Q x

@@ -1,18 +1,25 @@
 -- What is kept of all that words have given, word by word.
-use Rattle.std.proofs.Common.{◌≡◌, ℕ, List, length, Bool, true, false, refl, sym, ap, subst, ◌∙◌, ◌^◌}
-use Rattle.std.specs.Prelude.{Option, Some, None, Result, Ok, Err, IfSome, cond, nat_lt}
-use Rattle.std.specs.List.{sum, position_or_len, before_first, after_first}
-use Rattle.std.proofs.lemmas.Bool.{eqb-true}
+use Rattle.std.proofs.Common.{◌≡◌, ℕ, List, [], ◌∷◌, length, Bool, true, false, ◌&&◌, refl, sym, ap, subst, ◌∙◌, ◌^◌, arith}
+use Rattle.std.specs.Prelude.{Option, Some, None, Result, Ok, Err, IfSome, cond, nat_lt, nat_le, ◌==◌}
+use Rattle.std.specs.List.{list_all, sum, position_or_len, before_first, after_first}
+use Rattle.std.proofs.lemmas.Bool.{eqb-true, eqb-false, and_parts, and_from, le-leb}
+use Rattle.case_types.specs.Ranges.{is_name_byte}
+use Rattle.case_types.specs.declared.cases.Edition.{Edition}
+use Rattle.case_words.specs.declared.keys.FlashKey.{FlashKey}
+use Rattle.case_words.specs.declared.keys.FlashKey.TheVariants.{Needed, Kappa}
 use Rattle.case_words.specs.declared.keys.Key.{Key}
 use Rattle.case_words.specs.declared.keys.Key.TheVariants.{T, P, Z, Names, Tol, Budget}
+use Rattle.case_words.specs.declared.faults.WordFault.{WordFault}
 use Rattle.case_words.specs.declared.faults.WordFault.TheVariants.{Unknown, Twice, Range, Count}
 use Rattle.dec_text.specs.Decimals.{decimal_of}
-use Rattle.case_words.specs.Answers.{◌>>=◌, when}
+use Rattle.dec_text.specs.declared.faults.DecFault.{DecFault}
+use Rattle.dec_text.specs.declared.faults.DecFault.TheVariants.{Empty, Digit}
+use Rattle.case_words.specs.Answers.{◌>>=◌, when, each_of}
 use Rattle.case_words.specs.Keys.{key_of}
-use Rattle.case_words.specs.Names.{name_of, are_different}
+use Rattle.case_words.specs.Names.{name_of, is_name_length, are_different}
 use Rattle.case_words.specs.Counts.{is_as_many, count_of}
-use Rattle.case_words.specs.Items.{valued, is_within, number_of, parts_of, names_of, up_to_four}
-use Rattle.case_words.specs.Jobs.{Gathered, nothing, stands, is_equals, with_value, with_key, with_word}
+use Rattle.case_words.specs.Items.{valued, is_within, number_of, edition_of, parts_of, names_of, items_of, up_to_four}
+use Rattle.case_words.specs.Jobs.{Gathered, nothing, stands, is_equals, with_needed, with_value, with_key, with_word}
 use Rattle.case_words.specs.Keeping.{IsKept}
 
 -- ---- results that are good
@@ -31,6 +38,11 @@ if_good false r x fault e = absurd (cc)
 pub unless_good : {A F : Type 0} (b : Bool) (r : Result A F) (x : A) (fault : F) → cond b (Err fault) r ≡ Ok x → r ≡ Ok x
 unless_good true r x fault e = absurd (cc)
 unless_good false r x fault e = e
+
+-- a result that isn't the fault
+pub not_refused : {A F : Type 0} (b : Bool) (r : Result A F) (x : A) (fault : F) → cond b (Err fault) r ≡ Ok x → b ≡ false
+not_refused false r x fault e = refl
+not_refused true r x fault e = absurd (cc)
 
 pub same_good : {A F : Type 0} (x y : A) → ◌≡◌ {A = Result A F} (Ok x) (Ok y) → x ≡ y
 same_good x y e = cc
@@ -57,6 +69,40 @@ names-differ place text names e =
     let good = when_good (are_different step.0) step.0 names (Twice place) step.2 in
     ap are_different (sym good.1) ∙ good.0
 
+-- ---- names of 1 to 16 bytes
+pub name-long : (text name : List ℕ) → name_of text ≡ Ok name → is_name_length name ≡ true
+unfolding name_of
+name-long text name e =
+    let some = not_refused (length text == 0) (cond (nat_le (length text) 16 && list_all is_name_byte text) (Ok text) (Err Digit)) name Empty e in
+    let long = unless_good (length text == 0) (cond (nat_le (length text) 16 && list_all is_name_byte text) (Ok text) (Err Digit)) name Empty e in
+    let good = when_good (nat_le (length text) 16 && list_all is_name_byte text) text name Digit long in
+    let short = (and_parts (nat_le (length text) 16) (list_all is_name_byte text) good.0).0 in
+    ap is_name_length (sym good.1) ∙ and_from (nat_le 1 (length text)) (nat_le (length text) 16) (le-leb 1 (length text) (omega (arith, eqb-false (length text) 0 some))) short
+
+valued-good : {A : Type 0} (place : ℕ) (r : Result A DecFault) (x : A) → valued place r ≡ Ok x → r ≡ Ok x
+valued-good place (Ok a) x e = ap {B = Result _ DecFault} Ok (same_good a x e)
+valued-good place (Err fault) x e = absurd (cc)
+
+each-good : {A B F : Type 0} (f : A → Result B F) (p : B → Bool) (xs : List A) (ys : List B) → ((x : A) (y : B) → f x ≡ Ok y → p y ≡ true)
+    → each_of f xs ≡ Ok ys → list_all p ys ≡ true
+unfolding each_of
+each-good f p [] ys good e = ap (list_all p) (sym (same_good [] ys e))
+each-good f p (x ∷ xs) ys good e =
+    let first = and_then_good (f x) (λ y. each_of f xs >>= (λ zs. Ok (y ∷ zs))) ys e in
+    let rest = and_then_good (each_of f xs) (λ zs. Ok (first.0 ∷ zs)) ys first.2 in
+    ap (list_all p) (sym (same_good (first.0 ∷ rest.0) ys rest.2))
+    ∙ and_from (p first.0) (list_all p rest.0) (good x first.0 first.1) (each-good f p xs rest.0 good rest.1)
+
+names-long : (place : ℕ) (text : List ℕ) (names : List (List ℕ)) → names_of place text ≡ Ok names → list_all is_name_length names ≡ true
+unfolding names_of up_to_four
+names-long place text names e =
+    let read : List ℕ → Result (List ℕ) WordFault = λ (item : List ℕ). valued place (name_of item) in
+    let step = and_then_good (up_to_four place read text) (λ (ns : List (List ℕ)). when (are_different ns) ns (Twice place)) names e in
+    let good = when_good (are_different step.0) step.0 names (Twice place) step.2 in
+    let all = if_good (nat_le (length (items_of text)) 4) (each_of read (items_of text)) step.0 (Count place) step.1 in
+    ap (list_all is_name_length) (sym good.1)
+    ∙ each-good read is_name_length (items_of text) step.0 (λ item name h. name-long item name (valued-good place (name_of item) name h)) all
+
 same_count : {A B : Type 0} (xs : List A) (others : Option (List B)) → is_as_many (length xs) (count_of others) ≡ true → IfSome others (λ ys. length xs ≡ length ys)
 same_count xs None e = tt
 same_count xs (Some ys) e = eqb-true (length xs) (length ys) e
@@ -67,37 +113,45 @@ same_count_back xs (Some ys) e = sym (eqb-true (length xs) (length ys) e)
 
 -- ---- the first word finds nothing to keep
 pub kept-nothing : IsKept nothing
-kept-nothing = record { t = tt; p = tt; total = tt; differ = tt; as_many = tt; tol = tt; budget = tt }
+kept-nothing = record { t = tt; p = tt; total = tt; differ = tt; named = tt; as_many = tt; tol = tt; budget = tt }
 
 -- ---- a word keeps it
-kept-value : (place : ℕ) (g more : Gathered) (key : Key) (value : List ℕ) → with_value place g key value ≡ Ok more → IsKept g → IsKept more
-unfolding with_value
-kept-value place g more T value e k =
+kept-needed : (place : ℕ) (g more : Gathered) (key : Key) (value : List ℕ) → with_needed place g key value ≡ Ok more → IsKept g → IsKept more
+unfolding with_needed
+kept-needed place g more T value e k =
     let step = and_then_good (number_of place 3 50000 1500000 value) (λ (n : ℕ). Ok (record g { t = Some n })) more e in
     let is : record g { t = Some step.0 } ≡ more = same_good (record g { t = Some step.0 }) more step.2 in
-    subst IsKept is (record { t = number-within place 3 50000 1500000 value step.0 step.1; p = k.p; total = k.total; differ = k.differ; as_many = k.as_many; tol = k.tol; budget = k.budget })
-kept-value place g more P value e k =
+    subst IsKept is (record { t = number-within place 3 50000 1500000 value step.0 step.1; p = k.p; total = k.total; differ = k.differ; named = k.named; as_many = k.as_many; tol = k.tol; budget = k.budget })
+kept-needed place g more P value e k =
     let step = and_then_good (number_of place 0 1000 100000000 value) (λ (n : ℕ). Ok (record g { p = Some n })) more e in
     let is : record g { p = Some step.0 } ≡ more = same_good (record g { p = Some step.0 }) more step.2 in
-    subst IsKept is (record { t = k.t; p = number-within place 0 1000 100000000 value step.0 step.1; total = k.total; differ = k.differ; as_many = k.as_many; tol = k.tol; budget = k.budget })
-kept-value place g more Z value e k =
+    subst IsKept is (record { t = k.t; p = number-within place 0 1000 100000000 value step.0 step.1; total = k.total; differ = k.differ; named = k.named; as_many = k.as_many; tol = k.tol; budget = k.budget })
+kept-needed place g more Z value e k =
     let step = and_then_good (parts_of place value) (λ (zs : List ℕ). when (is_as_many (length zs) (count_of g.names)) (record g { z = Some zs }) (Count place)) more e in
     let good = when_good (is_as_many (length step.0) (count_of g.names)) (record g { z = Some step.0 }) more (Count place) step.2 in
-    subst IsKept good.1 (record { t = k.t; p = k.p; total = parts-within place value step.0 step.1; differ = k.differ; as_many = same_count step.0 g.names good.0; tol = k.tol; budget = k.budget })
-kept-value place g more Names value e k =
+    subst IsKept good.1 (record { t = k.t; p = k.p; total = parts-within place value step.0 step.1; differ = k.differ; named = k.named; as_many = same_count step.0 g.names good.0; tol = k.tol; budget = k.budget })
+kept-needed place g more Names value e k =
     let step = and_then_good (names_of place value) (λ (ns : List (List ℕ)). when (is_as_many (length ns) (count_of g.z)) (record g { names = Some ns }) (Count place)) more e in
     let good = when_good (is_as_many (length step.0) (count_of g.z)) (record g { names = Some step.0 }) more (Count place) step.2 in
-    subst IsKept good.1 (record { t = k.t; p = k.p; total = k.total; differ = names-differ place value step.0 step.1; as_many = same_count_back step.0 g.z good.0; tol = k.tol; budget = k.budget })
-kept-value place g more Tol value e k =
+    subst IsKept good.1 (record { t = k.t; p = k.p; total = k.total; differ = names-differ place value step.0 step.1; named = names-long place value step.0 step.1; as_many = same_count_back step.0 g.z good.0; tol = k.tol; budget = k.budget })
+kept-needed place g more Tol value e k =
     let step = and_then_good (number_of place 0 128 1048576 value) (λ (n : ℕ). Ok (record g { tol = Some n })) more e in
     let is : record g { tol = Some step.0 } ≡ more = same_good (record g { tol = Some step.0 }) more step.2 in
-    subst IsKept is (record { t = k.t; p = k.p; total = k.total; differ = k.differ; as_many = k.as_many; tol = number-within place 0 128 1048576 value step.0 step.1; budget = k.budget })
-kept-value place g more Budget value e k =
+    subst IsKept is (record { t = k.t; p = k.p; total = k.total; differ = k.differ; named = k.named; as_many = k.as_many; tol = number-within place 0 128 1048576 value step.0 step.1; budget = k.budget })
+kept-needed place g more Budget value e k =
     let step = and_then_good (number_of place 0 1 10000000 value) (λ (n : ℕ). Ok (record g { budget = Some n })) more e in
     let is : record g { budget = Some step.0 } ≡ more = same_good (record g { budget = Some step.0 }) more step.2 in
-    subst IsKept is (record { t = k.t; p = k.p; total = k.total; differ = k.differ; as_many = k.as_many; tol = k.tol; budget = number-within place 0 1 10000000 value step.0 step.1 })
+    subst IsKept is (record { t = k.t; p = k.p; total = k.total; differ = k.differ; named = k.named; as_many = k.as_many; tol = k.tol; budget = number-within place 0 1 10000000 value step.0 step.1 })
 
-kept-key : (place : ℕ) (g more : Gathered) (key : Option Key) (value : List ℕ) → with_key place g key value ≡ Ok more → IsKept g → IsKept more
+kept-value : (place : ℕ) (g more : Gathered) (key : FlashKey) (value : List ℕ) → with_value place g key value ≡ Ok more → IsKept g → IsKept more
+unfolding with_value
+kept-value place g more (Needed key) value e k = kept-needed place g more key value e k
+kept-value place g more Kappa value e k =
+    let step = and_then_good (edition_of place value) (λ (edition : Edition). Ok (record g { edition = Some edition })) more e in
+    let is : record g { edition = Some step.0 } ≡ more = same_good (record g { edition = Some step.0 }) more step.2 in
+    subst IsKept is (record { t = k.t; p = k.p; total = k.total; differ = k.differ; named = k.named; as_many = k.as_many; tol = k.tol; budget = k.budget })
+
+kept-key : (place : ℕ) (g more : Gathered) (key : Option FlashKey) (value : List ℕ) → with_key place g key value ≡ Ok more → IsKept g → IsKept more
 kept-key place g more None value e k = absurd (cc)
 kept-key place g more (Some key) value e k =
     kept-value place g more key value (unless_good (stands g key) (with_value place g key value) more (Twice place) e) k

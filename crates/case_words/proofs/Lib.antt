@@ -6,3 +6,4 @@ pub mod Repeats
 pub mod Asking
 pub mod Steps
 pub mod Kept
+pub mod Exports

@@ -1,14 +1,14 @@
 -- Numbers and lists with their faults, step by step.
 use Rattle.std.proofs.Common.{◌≡◌, ℕ, ◌^◌, List, length, true, false, refl}
-use Rattle.std.specs.Prelude.{Result, Ok, Err, nat_le}
+use Rattle.std.specs.Prelude.{Result, Ok, Err, ◌==◌, nat_le}
 use Rattle.std.specs.List.{sum}
 use Rattle.dec_text.specs.Decimals.{decimal_of}
 use Rattle.dec_text.specs.declared.faults.DecFault.{DecFault}
 use Rattle.case_words.specs.declared.faults.WordFault.{WordFault}
 use Rattle.case_words.specs.declared.faults.WordFault.TheVariants.{Value, Range, Count, Twice}
-use Rattle.case_words.specs.Answers.{each_of}
+use Rattle.case_words.specs.Answers.{◌>>=◌, each_of}
 use Rattle.case_words.specs.Names.{name_of, are_different}
-use Rattle.case_words.specs.Items.{valued, number_of, is_within, items_of, up_to_four, parts_of, names_of}
+use Rattle.case_words.specs.Items.{valued, number_of, is_within, edition_by, edition_of, items_of, up_to_four, parts_of, names_of}
 
 -- ---- a number
 pub number-value : (place places low high : ℕ) (text : List ℕ) (fault : DecFault) → decimal_of places (10 ^ 15) text ≡ Err fault
@@ -25,6 +25,15 @@ pub number-good : (place places low high : ℕ) (text : List ℕ) (n : ℕ) → 
     → number_of place places low high text ≡ Ok n
 unfolding number_of
 number-good place places low high text n e inside = rw (e, inside) refl
+
+-- ---- an edition
+pub edition-read : (place : ℕ) (text : List ℕ) (r : Result ℕ WordFault) → number_of place 0 76 78 text ≡ r
+    → edition_of place text ≡ (r >>= edition_by place)
+unfolding edition_of
+edition-read place text r e = rw e refl
+
+pub edition-neither : (place year : ℕ) → (year == 76) ≡ false → (year == 78) ≡ false → edition_by place year ≡ Err (Range place)
+edition-neither place year first second = rw (first, second) refl
 
 -- ---- lists
 pub many-items : {A : Type 0} (place : ℕ) (read : List ℕ → Result A WordFault) (text : List ℕ) → nat_le (length (items_of text)) 4 ≡ false

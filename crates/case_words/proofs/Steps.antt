@@ -4,6 +4,9 @@ use Rattle.std.specs.Prelude.{Option, Some, None, Result, Ok, Err, nat_lt, codes
 use Rattle.std.specs.List.{position_or_len, before_first, after_first}
 use Rattle.std.specs.Str.{bytes_eq}
 use Rattle.std.proofs.lemmas.List.{drop_more, drop_all}
+use Rattle.case_types.specs.declared.cases.Edition.{Edition}
+use Rattle.case_words.specs.declared.keys.FlashKey.{FlashKey}
+use Rattle.case_words.specs.declared.keys.FlashKey.TheVariants.{Needed, Kappa}
 use Rattle.case_words.specs.declared.keys.Key.{Key}
 use Rattle.case_words.specs.declared.keys.Key.TheVariants.{T, P, Z, Names, Tol, Budget}
 use Rattle.case_words.specs.declared.faults.WordFault.{WordFault}
@@ -11,58 +14,68 @@ use Rattle.case_words.specs.declared.faults.WordFault.TheVariants.{NoCommand, Un
 use Rattle.case_words.specs.Answers.{◌>>=◌, Answers}
 use Rattle.case_words.specs.Keys.{key_of}
 use Rattle.case_words.specs.Counts.{is_as_many, count_of}
-use Rattle.case_words.specs.Items.{number_of, parts_of, names_of}
-use Rattle.case_words.specs.Jobs.{Gathered, Asked, PlainJob, PlainTp, nothing, stands, is_equals, with_value, with_word, with_words, asked_of, job_of}
+use Rattle.case_words.specs.Items.{number_of, edition_of, parts_of, names_of}
+use Rattle.case_words.specs.Jobs.{Gathered, Asked, PlainJob, PlainTp, nothing, stands, is_equals, with_needed, with_value, with_word, with_words, asked_of, job_of}
 
--- ---- the value of a key
+-- ---- the value of a key that must stand
 pub value-t : (place : ℕ) (g : Gathered) (value : List ℕ) (r : Result ℕ WordFault) → number_of place 3 50000 1500000 value ≡ r
-    → with_value place g T value ≡ (r >>= (λ t. Ok (record g { t = Some t })))
-unfolding with_value
+    → with_needed place g T value ≡ (r >>= (λ t. Ok (record g { t = Some t })))
+unfolding with_needed
 value-t place g value r e = rw e refl
 
 pub value-p : (place : ℕ) (g : Gathered) (value : List ℕ) (r : Result ℕ WordFault) → number_of place 0 1000 100000000 value ≡ r
-    → with_value place g P value ≡ (r >>= (λ p. Ok (record g { p = Some p })))
-unfolding with_value
+    → with_needed place g P value ≡ (r >>= (λ p. Ok (record g { p = Some p })))
+unfolding with_needed
 value-p place g value r e = rw e refl
 
 pub value-tol : (place : ℕ) (g : Gathered) (value : List ℕ) (r : Result ℕ WordFault) → number_of place 0 128 1048576 value ≡ r
-    → with_value place g Tol value ≡ (r >>= (λ tol. Ok (record g { tol = Some tol })))
-unfolding with_value
+    → with_needed place g Tol value ≡ (r >>= (λ tol. Ok (record g { tol = Some tol })))
+unfolding with_needed
 value-tol place g value r e = rw e refl
 
 pub value-budget : (place : ℕ) (g : Gathered) (value : List ℕ) (r : Result ℕ WordFault) → number_of place 0 1 10000000 value ≡ r
-    → with_value place g Budget value ≡ (r >>= (λ budget. Ok (record g { budget = Some budget })))
-unfolding with_value
+    → with_needed place g Budget value ≡ (r >>= (λ budget. Ok (record g { budget = Some budget })))
+unfolding with_needed
 value-budget place g value r e = rw e refl
 
-pub value-z_fault : (place : ℕ) (g : Gathered) (value : List ℕ) (fault : WordFault) → parts_of place value ≡ Err fault → with_value place g Z value ≡ Err fault
-unfolding with_value
+pub value-z_fault : (place : ℕ) (g : Gathered) (value : List ℕ) (fault : WordFault) → parts_of place value ≡ Err fault → with_needed place g Z value ≡ Err fault
+unfolding with_needed
 value-z_fault place g value fault e = rw e refl
 
 pub value-z_count : (place : ℕ) (g : Gathered) (value parts : List ℕ) → parts_of place value ≡ Ok parts
-    → is_as_many (length parts) (count_of g.names) ≡ false → with_value place g Z value ≡ Err (Count place)
-unfolding with_value
+    → is_as_many (length parts) (count_of g.names) ≡ false → with_needed place g Z value ≡ Err (Count place)
+unfolding with_needed
 value-z_count place g value parts e other = rw (e, other) refl
 
 pub value-z : (place : ℕ) (g : Gathered) (value parts : List ℕ) → parts_of place value ≡ Ok parts
-    → is_as_many (length parts) (count_of g.names) ≡ true → with_value place g Z value ≡ Ok (record g { z = Some parts })
-unfolding with_value
+    → is_as_many (length parts) (count_of g.names) ≡ true → with_needed place g Z value ≡ Ok (record g { z = Some parts })
+unfolding with_needed
 value-z place g value parts e same = rw (e, same) refl
 
 pub value-names_fault : (place : ℕ) (g : Gathered) (value : List ℕ) (fault : WordFault) → names_of place value ≡ Err fault
-    → with_value place g Names value ≡ Err fault
-unfolding with_value
+    → with_needed place g Names value ≡ Err fault
+unfolding with_needed
 value-names_fault place g value fault e = rw e refl
 
 pub value-names_count : (place : ℕ) (g : Gathered) (value : List ℕ) (names : List (List ℕ)) → names_of place value ≡ Ok names
-    → is_as_many (length names) (count_of g.z) ≡ false → with_value place g Names value ≡ Err (Count place)
-unfolding with_value
+    → is_as_many (length names) (count_of g.z) ≡ false → with_needed place g Names value ≡ Err (Count place)
+unfolding with_needed
 value-names_count place g value names e other = rw (e, other) refl
 
 pub value-names : (place : ℕ) (g : Gathered) (value : List ℕ) (names : List (List ℕ)) → names_of place value ≡ Ok names
-    → is_as_many (length names) (count_of g.z) ≡ true → with_value place g Names value ≡ Ok (record g { names = Some names })
-unfolding with_value
+    → is_as_many (length names) (count_of g.z) ≡ true → with_needed place g Names value ≡ Ok (record g { names = Some names })
+unfolding with_needed
 value-names place g value names e same = rw (e, same) refl
+
+-- ---- the value of any key
+pub value-needed : (place : ℕ) (g : Gathered) (key : Key) (value : List ℕ) → with_value place g (Needed key) value ≡ with_needed place g key value
+unfolding with_value
+value-needed place g key value = refl
+
+pub value-kappa : (place : ℕ) (g : Gathered) (value : List ℕ) (r : Result Edition WordFault) → edition_of place value ≡ r
+    → with_value place g Kappa value ≡ (r >>= (λ edition. Ok (record g { edition = Some edition })))
+unfolding with_value
+value-kappa place g value r e = rw e refl
 
 -- ---- the word
 pub word-without_equals : (place : ℕ) (g : Gathered) (word : List ℕ) → nat_lt (position_or_len is_equals word) (length word) ≡ false
@@ -75,12 +88,12 @@ pub word-unknown : (place : ℕ) (g : Gathered) (word : List ℕ) → nat_lt (po
 unfolding with_word
 word-unknown place g word e none = rw (e, none) refl
 
-pub word-twice : (place : ℕ) (g : Gathered) (word : List ℕ) (key : Key) → nat_lt (position_or_len is_equals word) (length word) ≡ true
+pub word-twice : (place : ℕ) (g : Gathered) (word : List ℕ) (key : FlashKey) → nat_lt (position_or_len is_equals word) (length word) ≡ true
     → key_of (before_first is_equals word) ≡ Some key → stands g key ≡ true → with_word place g word ≡ Err (Twice place)
 unfolding with_word
 word-twice place g word key e is there = rw (e, is, there) refl
 
-pub word-value : (place : ℕ) (g : Gathered) (word : List ℕ) (key : Key) → nat_lt (position_or_len is_equals word) (length word) ≡ true
+pub word-value : (place : ℕ) (g : Gathered) (word : List ℕ) (key : FlashKey) → nat_lt (position_or_len is_equals word) (length word) ≡ true
     → key_of (before_first is_equals word) ≡ Some key → stands g key ≡ false
     → with_word place g word ≡ with_value place g key (after_first is_equals word)
 unfolding with_word

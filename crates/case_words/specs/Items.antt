@@ -1,6 +1,8 @@
 -- Numbers, and lists with commas, in the word at a place.
 use Rattle.std.specs.Prelude.{ℕ, ◌^◌, List, length, Bool, ◌&&◌, ◌==◌, nat_le, if◌then◌else◌, Result, Ok, Err}
 use Rattle.std.specs.List.{slice_split, sum}
+use Rattle.case_types.specs.declared.cases.Edition.{Edition}
+use Rattle.case_types.specs.declared.cases.Edition.TheVariants.{Y1976, Y1978}
 use Rattle.dec_text.specs.Decimals.{decimal_of}
 use Rattle.dec_text.specs.declared.faults.DecFault.{DecFault}
 use Rattle.case_words.specs.Answers.{◌>>=◌, when, each_of}
@@ -21,6 +23,14 @@ unfoldable pub number_of : ℕ → ℕ → ℕ → ℕ → List ℕ → Result �
 number_of place places low high text = do
   n ← valued place (decimal_of places (10 ^ 15) text)
   when (is_within low high n) n (Range place)
+
+-- the edition of a year: 76 or 78
+abbrev pub edition_by : ℕ → ℕ → Result Edition WordFault
+edition_by place year = if year == 76 then Ok Y1976 else (if year == 78 then Ok Y1978 else Err (Range place))
+
+-- an edition: a number without places, and then its year
+unfoldable pub edition_of : ℕ → List ℕ → Result Edition WordFault
+edition_of place text = number_of place 0 76 78 text >>= edition_by place
 
 abbrev pub is_comma : ℕ → Bool
 is_comma b = b == 44

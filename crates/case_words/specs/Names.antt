@@ -15,8 +15,11 @@ text_of name = take name.len name.bytes
 unfoldable pub name_of : List ℕ → Result (List ℕ) DecFault
 name_of text =
     if length text == 0 then Err Empty
-    else (if nat_le (length text) 16 && list_all is_name_byte text then Ok text
-    else Err Digit)
+    else (if nat_le (length text) 16 && list_all is_name_byte text then Ok text else Err Digit)
+
+-- 1 to 16 bytes
+abbrev pub is_name_length : List ℕ → Bool
+is_name_length text = nat_le 1 (length text) && nat_le (length text) 16
 
 -- no name stands twice
 unfoldable pub are_different : List (List ℕ) → Bool

@@ -16,6 +16,7 @@ gathered_of g = record {
   names = option_map (λ names. map text_of names.items) g.names;
   tol = g.tol;
   budget = g.budget;
+  edition = g.edition;
 }
 
 abbrev pub asked_by : FlashWords → Asked
@@ -26,6 +27,7 @@ asked_by words = record {
   names = map text_of words.names.items;
   tol = words.tol;
   budget = words.budget;
+  edition = words.edition;
 }
 
 abbrev pub plain_job : Job → PlainJob

@@ -4,11 +4,11 @@ ghost use Rattle.std.specs.Prelude.{◌≡◌};
 ghost use Rattle.case_words.specs.Counts.{is_as_many, count_of};
 
 use crate::faults::WordFault;
-use crate::items::{behind, place_of, read_names, read_number, read_parts};
+use crate::items::{behind, place_of, read_edition, read_names, read_number, read_parts};
 use crate::jobs::FlashWords;
-use crate::keys::Key;
+use crate::keys::{FlashKey, Key};
 use arrayvec::ArrayVec;
-use case_types::{Name, SLOTS};
+use case_types::{Edition, Name, SLOTS};
 
 /// The values of the keys that stood.
 #[derive(Drop)]
@@ -19,11 +19,12 @@ pub struct Given {
     pub names: Option<ArrayVec<Name, SLOTS>>,
     pub tol: Option<u32>,
     pub budget: Option<u32>,
+    pub edition: Option<Edition>,
 }
 
 impl Given {
     ghost use Rattle.case_words.specs.Answers.{Answers};
-    ghost use Rattle.case_words.specs.Jobs.{with_word, with_value, stands, nothing, asked_of};
+    ghost use Rattle.case_words.specs.Jobs.{with_word, with_value, with_needed, stands, needed_stands, nothing, asked_of};
     ghost use Rattle.case_words.specs.Views.{gathered_of, asked_by};
     ghost use Rattle.case_words.specs.Keeping.{IsKept};
 
@@ -38,6 +39,7 @@ impl Given {
             names: None,
             tol: None,
             budget: None,
+            edition: None,
         }
     }
 
@@ -49,7 +51,7 @@ impl Given {
         if end == word.len() {
             return Err(WordFault::Unknown(place));
         }
-        let Some(key) = Key::from_bytes(&word[..end]) else {
+        let Some(key) = FlashKey::from_bytes(&word[..end]) else {
             return Err(WordFault::Unknown(place));
         };
         if self.has(key) {
@@ -59,8 +61,18 @@ impl Given {
     }
 
     /// Whether the key stood before.
-    fn has(&self, key: Key) -> bool
+    fn has(&self, key: FlashKey) -> bool
         ensures { result ≡ stands (gathered_of self.now) key }
+    {
+        match key {
+            FlashKey::Needed(key) => self.has_needed(key),
+            FlashKey::Kappa => self.edition.is_some(),
+        }
+    }
+
+    /// Whether a key that must stand stood before.
+    fn has_needed(&self, key: Key) -> bool
+        ensures { result ≡ needed_stands (gathered_of self.now) key }
     {
         match key {
             Key::T => self.t.is_some(),
@@ -93,8 +105,21 @@ impl Given {
     }
 
     /// Takes the value of a key in the word at a place.
-    fn set(&mut self, place: usize, key: Key, value: &[u8]) -> Result<(), WordFault>
+    fn set(&mut self, place: usize, key: FlashKey, value: &[u8]) -> Result<(), WordFault>
         ensures { Answers (λ _. gathered_of self.new) (with_value place (gathered_of self.old) key value.now) result }
+    {
+        match key {
+            FlashKey::Needed(key) => self.set_needed(place, key, value),
+            FlashKey::Kappa => {
+                self.edition = Some(read_edition(place, value)?);
+                Ok(())
+            }
+        }
+    }
+
+    /// Takes the value of a key that must stand in the word at a place.
+    fn set_needed(&mut self, place: usize, key: Key, value: &[u8]) -> Result<(), WordFault>
+        ensures { Answers (λ _. gathered_of self.new) (with_needed place (gathered_of self.old) key value.now) result }
     {
         match key {
             Key::T => self.t = Some(read_number(place, 3, 50_000, 1_500_000, value)?),
@@ -131,6 +156,7 @@ impl Given {
             names,
             tol,
             budget,
+            edition,
         } = self;
         let Some(t) = t else {
             return Err(WordFault::Missing(Key::T));
@@ -157,6 +183,7 @@ impl Given {
             names,
             tol,
             budget,
+            edition: edition.unwrap_or(Edition::Y1976),
         })
     }
 }

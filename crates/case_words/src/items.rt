@@ -5,12 +5,12 @@ ghost use Rattle.std.specs.List.{position_or_len, list_any};
 ghost use Rattle.std.specs.Str.{bytes_eq};
 ghost use Rattle.case_words.specs.Answers.{Answers};
 ghost use Rattle.case_words.specs.Names.{text_of, are_different};
-ghost use Rattle.case_words.specs.Items.{number_of, is_within, items_of, parts_of, names_of};
+ghost use Rattle.case_words.specs.Items.{number_of, is_within, items_of, edition_of, parts_of, names_of};
 
 use crate::faults::WordFault;
 use crate::names::{name_text, read_name};
 use arrayvec::ArrayVec;
-use case_types::{Name, SLOTS};
+use case_types::{Edition, Name, SLOTS};
 use dec_text::read_dec;
 
 /// The largest number that is read before its range is tested.
@@ -44,6 +44,20 @@ fn is_in(low: u32, high: u32, n: u64) -> bool
     ensures high { IsTrue result → n ≤ high }
 {
     u64::from(low) <= n && n <= u64::from(high)
+}
+
+/// The edition that a number without places in the word at a place names: 76 or 78.
+pub fn read_edition(place: usize, text: &[u8]) -> Result<Edition, WordFault>
+    ensures { Answers (λ edition. edition) (edition_of place text.now) result }
+{
+    let year = read_number(place, 0, 76, 78, text)?;
+    if year == 76 {
+        Ok(Edition::Y1976)
+    } else if year == 78 {
+        Ok(Edition::Y1978)
+    } else {
+        Err(WordFault::Range(place))
+    }
 }
 
 /// The feed: at most four parts, and then the range of their total.

@@ -1,11 +1,11 @@
 //! What the words ask for.
 
 ghost use Rattle.std.specs.Prelude.{◌≡◌, ◌≤◌, IsTrue, length, map};
-ghost use Rattle.std.specs.List.{sum};
-ghost use Rattle.case_words.specs.Names.{text_of, are_different};
+ghost use Rattle.std.specs.List.{list_all, sum};
+ghost use Rattle.case_words.specs.Names.{text_of, is_name_length, are_different};
 
 use arrayvec::ArrayVec;
-use case_types::{Name, SLOTS};
+use case_types::{Edition, Name, SLOTS};
 
 /// The job of a command.
 #[derive(Drop)]
@@ -29,6 +29,8 @@ pub struct FlashWords {
     pub tol: u32,
     /// The units of work.
     pub budget: u32,
+    /// The edition of the equation: that of 1976, unless a word says else.
+    pub edition: Edition,
     pub ghost t_low: { 50000 ≤ t },
     pub ghost t_high: { t ≤ 1500000 },
     pub ghost p_low: { 1000 ≤ p },
@@ -36,6 +38,7 @@ pub struct FlashWords {
     pub ghost total_low: { 1 ≤ sum z.items },
     pub ghost total_high: { sum z.items ≤ 1048576 },
     pub ghost as_many: { length z.items ≡ length names.items },
+    pub ghost named: { IsTrue (list_all is_name_length (map text_of names.items)) },
     pub ghost differ: { IsTrue (are_different (map text_of names.items)) },
     pub ghost tol_low: { 128 ≤ tol },
     pub ghost tol_high: { tol ≤ 1048576 },

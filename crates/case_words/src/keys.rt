@@ -2,7 +2,7 @@
 
 ghost use Rattle.std.specs.Prelude.{◌≡◌};
 
-/// A key of a word, in the order in which a missing one is named.
+/// A key that must stand, in the order in which a missing one is named.
 #[derive(Clone, Copy, Debug, PartialEq, Eq)]
 pub enum Key {
     /// The temperature in K.
@@ -19,13 +19,40 @@ pub enum Key {
     Budget,
 }
 
-impl Key {
-    ghost use Rattle.case_words.specs.Keys.{key_of, key_text};
+/// A key of a flash.
+#[derive(Clone, Copy, Debug, PartialEq, Eq)]
+pub enum FlashKey {
+    /// One that must stand.
+    Needed(Key),
+    /// The edition of the equation, which may be left out.
+    Kappa,
+}
+
+impl FlashKey {
+    ghost use Rattle.case_words.specs.Keys.{key_of};
 
     /// The key that is spelled so.
     #[tactic(auto, unfolding(crate::specs::Keys::key_of))]
-    pub fn from_bytes(bytes: &[u8]) -> Option<Key>
+    pub fn from_bytes(bytes: &[u8]) -> Option<FlashKey>
         ensures { result ≡ key_of bytes.now }
+    {
+        if bytes == b"kappa".as_slice() {
+            return Some(FlashKey::Kappa);
+        }
+        match Key::from_bytes(bytes) {
+            Some(key) => Some(FlashKey::Needed(key)),
+            None => None,
+        }
+    }
+}
+
+impl Key {
+    ghost use Rattle.case_words.specs.Keys.{needed_of, key_text};
+
+    /// The key that must stand and is spelled so.
+    #[tactic(auto, unfolding(crate::specs::Keys::needed_of))]
+    fn from_bytes(bytes: &[u8]) -> Option<Key>
+        ensures { result ≡ needed_of bytes.now }
     {
         if bytes == b"T".as_slice() {
             Some(Key::T)

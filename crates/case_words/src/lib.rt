@@ -1,7 +1,8 @@
 //! The words of the command line: the job that they ask for, or the first fault with its place.
 //!
 //! The first word is the command, every other is `key=value`. [`read_words`] answers exactly the job of its words, or exactly
-//! their first fault. It takes no memory. The only command is `tp`; it wants each of its keys once, in any order.
+//! their first fault. It takes no memory. The only command is `tp`; it wants each of its keys once, in any order,
+//! but for the edition of the equation, which may be left out.
 #![tactic(auto)]
 
 mod faults;

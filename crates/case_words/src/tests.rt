@@ -1,6 +1,7 @@
 //! Words and their jobs, worked by hand.
 
 use super::*;
+use case_types::Edition;
 use dec_text::DecFault;
 use std::alloc::{AllocError, Global};
 use std::test::Fail;
@@ -20,7 +21,7 @@ fn fault_of(alloc: Global, line: &str) -> Result<Option<WordFault>, AllocError> 
 }
 
 /// A line of words, and its first fault.
-const REFUSED: [(&str, WordFault); 46] = [
+const REFUSED: [(&str, WordFault); 54] = [
     ("", WordFault::NoCommand),
     ("pt", WordFault::NoCommand),
     ("TP T=300", WordFault::NoCommand),
@@ -76,6 +77,20 @@ const REFUSED: [(&str, WordFault); 46] = [
         "tp T=300 P=1000000 z=1 names=a tol=1024",
         WordFault::Missing(Key::Budget),
     ),
+    (
+        "tp T=300 P=1000000 z=1 names=a tol=1024 budget=1 kappa=77",
+        WordFault::Range(8),
+    ),
+    (
+        "tp T=300 P=1000000 z=1 names=a tol=1024 budget=1 kappa=x",
+        WordFault::Value(8, DecFault::Digit),
+    ),
+    ("tp kappa=75", WordFault::Range(2)),
+    ("tp kappa=79", WordFault::Range(2)),
+    ("tp kappa=1976", WordFault::Range(2)),
+    ("tp kappa=76.5", WordFault::Value(2, DecFault::Places)),
+    ("tp kappa=76 kappa=78", WordFault::Twice(3)),
+    ("tp kappa=78", WordFault::Missing(Key::T)),
 ];
 
 #[test]
@@ -102,6 +117,40 @@ fn names_the_first_missing_key(rt: HostRuntime) -> Result<(), Fail> {
             Some(WordFault::Missing(key)),
             "{line}"
         );
+    }
+    Ok(())
+}
+
+#[test]
+fn reads_the_edition(rt: HostRuntime) -> Result<(), Fail> {
+    let cases: [(&str, Edition); 5] = [
+        (
+            "tp T=300 P=1000 z=1 names=a tol=128 budget=1",
+            Edition::Y1976,
+        ),
+        (
+            "tp T=300 P=1000 z=1 names=a tol=128 budget=1 kappa=76",
+            Edition::Y1976,
+        ),
+        (
+            "tp T=300 P=1000 z=1 names=a tol=128 budget=1 kappa=78",
+            Edition::Y1978,
+        ),
+        (
+            "tp kappa=078.0 T=300 P=1000 z=1 names=a tol=128 budget=1",
+            Edition::Y1978,
+        ),
+        (
+            "tp T=300 kappa=76.00 P=1000 z=1 names=a tol=128 budget=1",
+            Edition::Y1976,
+        ),
+    ];
+    for (line, want) in cases {
+        let words = words_of(rt.alloc(), line)?;
+        let Ok(Job::Tp(asked)) = read_words(&words) else {
+            return Err("refused".into());
+        };
+        assert_eq!(rt; asked.edition, want, "{line}");
     }
     Ok(())
 }

@@ -4,7 +4,7 @@ ghost use Rattle.std.specs.Prelude.{◌≤◌, ◌<◌, ◌^◌};
 
 use crate::compositions::fraction_at;
 use case_types::SLOTS;
-use fix_interval::Iv;
+use log_laws::Iv;
 use pr_params::Params;
 
 /// The least co-volume that is divided by.

@@ -141,5 +141,5 @@ fn excess(params: &Params, shared: &Shared, i: u8) -> i128
     let push = in_bits(crowded(ratio, crowding(y)));
     let fall = in_bits(product(whole, thinned(y)));
     let pull = attraction_ratio(pull_at(&shared.pulls, i), shared.b);
-    push - fall - pulled(growth(pull, whole), attraction_log(params, shared.y))
+    push - fall - pulled(growth(pull, whole), attraction_log(shared.y))
 }

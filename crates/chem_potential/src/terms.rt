@@ -4,7 +4,7 @@ ghost use Rattle.std.specs.Prelude.{◌≤◌, ◌<◌, ◌^◌, unsigned_abs};
 
 use crate::kept::kept;
 use log_enclose::log2_lo;
-use pr_params::{Params, lam_lo};
+use pr_params::lambda_ends;
 
 /// 1 in 2^-40.
 const ONE: u128 = 1 << 40;
@@ -98,11 +98,11 @@ pub fn growth(pull: u128, whole: u128) -> i128
 }
 
 /// The logarithm of the attraction term over twice the root of 2.
-pub fn attraction_log(params: &Params, y: u64) -> i128
+pub fn attraction_log(y: u64) -> i128
     requires { y ≤ 2 ^ 40 }
     ensures { unsigned_abs result ≤ 2 ^ 48 }
 {
-    over_two_roots(lam_lo(params, y))
+    over_two_roots(lambda_ends(y).lo)
 }
 
 /// A logarithm over twice the root of 2.

@@ -7,3 +7,5 @@ pub mod Kept
 pub mod Choices
 pub mod Consumed
 pub mod Reached
+pub mod Apart
+pub mod Rising

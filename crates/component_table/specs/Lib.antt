@@ -7,3 +7,5 @@ pub mod Views
 pub mod Choosing
 pub mod Chosens
 pub mod Picking
+pub mod Apart
+pub mod Rising

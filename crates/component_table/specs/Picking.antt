@@ -19,6 +19,7 @@ pub record IsCaseOf (t : Held) (asked : Asked) (chosen : PlainChosen) (case_ : C
   pub total : case_.total ≡ sum asked.z
   pub temperature : case_.t ≡ asked.t
   pub pressure : case_.p ≡ asked.p
+  pub edition : case_.edition ≡ asked.edition
 
 -- the case and the live names are those of what the job names
 pub record Picks (t : Held) (asked : Asked) (picked : Picked) : Type 0 where

@@ -81,12 +81,10 @@ abbrev pub typed_of : ℕ → List (List ℕ) → Result PlainRecord TableFault
 typed_of n fields =
     if bytes_eq (field 1 fields) (codes "comp") then comp_of n fields
     else (if bytes_eq (field 1 fields) (codes "k") then pair_of n fields
-    else (if bytes_eq (field 1 fields) (codes "cp") then cp_of n fields
-    else Err (Kind n)))
+    else (if bytes_eq (field 1 fields) (codes "cp") then cp_of n fields else Err (Kind n)))
 
 -- the record n: six fields of text, of one of three kinds
 unfoldable pub record_of : ℕ → List (List ℕ) → Result PlainRecord TableFault
 record_of n fields =
-    if length fields == 6
-    then (if list_all is_utf8 fields then typed_of n fields else Err (Utf8 n))
+    if length fields == 6 then (if list_all is_utf8 fields then typed_of n fields else Err (Utf8 n))
     else Err (Fields n)

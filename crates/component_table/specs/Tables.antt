@@ -45,8 +45,7 @@ is_of i c = c.i == i
 unfoldable pub with_comp : ℕ → Held → PlainRow → Result Held TableFault
 with_comp n t row =
     if nat_lt (index_in t.comps row.name) (length t.comps) then Err (Twice n)
-    else (if nat_le 256 (length t.comps) then Err (TooMany n)
-    else Ok (record t { comps = t.comps ++ row ∷ [] }))
+    else (if nat_le 256 (length t.comps) then Err (TooMany n) else Ok (record t { comps = t.comps ++ row ∷ [] }))
 
 -- with the interaction of two places, which differ and have none yet
 abbrev pub with_places : ℕ → Held → ℕ → ℕ → ℤ → Result Held TableFault

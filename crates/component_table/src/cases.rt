@@ -1,6 +1,8 @@
 //! The case that the words name in a table.
 
-ghost use Rattle.std.specs.Prelude.{◌≡◌, length};
+ghost use Rattle.std.specs.Prelude.{◌≡◌, IsTrue, length, nat_lt};
+ghost use Rattle.std.specs.List.{list_all};
+ghost use Rattle.component_table.specs.Rising.{is_rising};
 
 use arrayvec::ArrayVec;
 use case_types::{Case, Name, ParamFault, SLOTS};
@@ -23,4 +25,6 @@ pub struct Picked {
     /// Where the components of the case stand among the names, from 0.
     pub live: ArrayVec<u8, SLOTS>,
     pub ghost as_many: { length live.items ≡ case.n },
+    pub ghost rising: { IsTrue (is_rising live.items) },
+    pub ghost placed: { IsTrue (list_all (λ k. nat_lt k (length names.items)) live.items) },
 }

@@ -6,6 +6,7 @@ ghost use Rattle.case_words.specs.Answers.{Answers};
 ghost use Rattle.case_words.specs.Names.{text_of};
 ghost use Rattle.component_table.specs.Rows.{plain_row};
 ghost use Rattle.component_table.specs.Choosing.{chosen_of, IsLive};
+ghost use Rattle.component_table.specs.Rising.{AreRisingBelow};
 ghost use Rattle.component_table.specs.Chosens.{plain_chosen};
 
 use crate::cases::CaseFault;
@@ -20,6 +21,7 @@ pub fn choose(comps: &[Row], job: &FlashWords) -> Result<Chosen, CaseFault>
     ensures exact { Answers plain_chosen (chosen_of (map plain_row comps.now) (map text_of job.now.names.items) job.now.z.items) result }
     ensures total { IfOk result (λ c. c.total ≡ sum job.now.z.items) }
     ensures live { IfOk result (λ c. IsLive (plain_chosen c) c.total) }
+    ensures rising { IfOk result (λ c. AreRisingBelow (length job.now.names.items) c.live.items) }
 {
     let names = job.names.as_slice();
     let parts = job.z.as_slice();

@@ -38,6 +38,7 @@ pub fn pick(table: &Table, job: &FlashWords) -> Result<Picked, CaseFault>
             total: chosen.total,
             t: job.t,
             p: job.p,
+            edition: job.edition,
         },
         names: copy_of(job.names.as_slice()),
         live: chosen.live,

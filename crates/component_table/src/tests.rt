@@ -1,6 +1,7 @@
 //! Tables and their faults, worked by hand.
 
 use super::*;
+use case_types::Edition;
 use case_words::{FlashWords, Job, Word, name_text, read_words};
 use dec_text::DecFault;
 use std::alloc::{AllocError, Global};
@@ -275,7 +276,7 @@ fn picks_the_live_components_in_the_order_of_the_names(rt: HostRuntime) -> Resul
     };
     let asked = asked_by(
         rt.alloc(),
-        "tp T=300 P=1000000 tol=1024 budget=1 z=2,0,1 names=c,b,a",
+        "tp T=300 P=1000000 tol=1024 budget=1 z=2,0,1 names=c,b,a kappa=78",
     )?;
     let Ok(picked) = pick(&table, &asked) else {
         return Err("refused names".into());
@@ -294,6 +295,7 @@ fn picks_the_live_components_in_the_order_of_the_names(rt: HostRuntime) -> Resul
     assert_eq!(rt; case.total, 3);
     assert_eq!(rt; case.t, 300_000);
     assert_eq!(rt; case.p, 1_000_000);
+    assert_eq!(rt; case.edition, Edition::Y1978);
     assert_eq!(rt; picked.live.as_slice(), [0, 2].as_slice());
     assert_eq!(rt; picked.names.len(), 3);
     Ok(())

@@ -4,7 +4,7 @@ use Rattle.std.specs.Prelude.{nat_lt}
 use Rattle.std.proofs.Math.Nat.{pow-suc}
 use Rattle.std.proofs.lemmas.Bool.{cases_lt, lt-ltb, le-ltb}
 use Rattle.log_laws.specs.Sums.{sum_below, list_below}
-use Rattle.case_types.specs.Cells.{Region, root_region, edge_length, lower_half, upper_half}
+use Rattle.case_types.specs.Grid.Cells.{Region, root_region, edge_length, lower_half, upper_half}
 use Rattle.density_boxes.specs.Halvings.{halvings_of, halvings_left}
 
 pub root_halvings : (n : ℕ) → 1 ≤ n → n ≤ 4 → halvings_left (root_region n) ≡ 20 * (n - 1) + 40

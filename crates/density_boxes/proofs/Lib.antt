@@ -2,3 +2,4 @@ pub mod Lists
 pub mod Halvings
 pub mod Widest
 pub mod Spread
+pub mod PlaneEnds

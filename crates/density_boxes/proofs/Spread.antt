@@ -1,9 +1,9 @@
 -- Fractions spread over the components, and the box of a cell.
 use Rattle.std.proofs.Common.{◌≡◌, ℕ, zero, suc, ◌+◌, ◌-◌, ◌*◌, ◌^◌, ◌≤◌, List, [], ◌∷◌, Bool, true, false, ◌==◌, cond, IsTrue, IsFalse, refl, slice_index, arith}
 use Rattle.std.specs.Prelude.{nat_lt}
-use Rattle.std.proofs.lemmas.Bool.{ltb-false}
-use Rattle.case_types.specs.Bounds.{Box, one}
-use Rattle.case_types.specs.Cells.{Region, misses, free_sum, box_of_region, middle_of, middle_sum}
+use Rattle.std.proofs.lemmas.Bool.{ltb-false, le-ltb}
+use Rattle.case_types.specs.Arithmetic.Bounds.{Box, one}
+use Rattle.case_types.specs.Grid.Cells.{Region, misses, free_sum, box_of_region, middle_of, middle_sum}
 use Rattle.case_types.specs.Ranges.{is_each_at_most, is_each_up_to}
 use Rattle.log_laws.specs.Sums.{sum_below, list_below}
 use Rattle.density_boxes.proofs.Lists.{at_most_at, up_to_at, four_at_most, four_up_to}
@@ -12,7 +12,8 @@ use Rattle.density_boxes.proofs.Lists.{at_most_at, up_to_at, four_at_most, four_
 abbrev pub spread : ℕ → (ℕ → ℕ) → ℕ → List ℕ
 spread n f rest = list_below 4 (λ i. cond (nat_lt i (n - 1)) (f i) (cond (i == n - 1) rest 0))
 
-pub sum-spread : (n : ℕ) (f : ℕ → ℕ) (rest : ℕ) → 1 ≤ n → n ≤ 4 → sum_below 4 (slice_index (spread n f rest)) ≡ sum_below (n - 1) f + rest
+-- those that are there add up to the sum of the free ones and the rest
+pub sum-spread : (n : ℕ) (f : ℕ → ℕ) (rest : ℕ) → 1 ≤ n → n ≤ 4 → sum_below n (slice_index (spread n f rest)) ≡ sum_below (n - 1) f + rest
 unfolding list_below
 sum-spread zero f rest h l = absurd (omega (arith, h))
 sum-spread (suc zero) f rest h l = omega arith
@@ -20,6 +21,21 @@ sum-spread (suc (suc zero)) f rest h l = omega arith
 sum-spread (suc (suc (suc zero))) f rest h l = omega arith
 sum-spread (suc (suc (suc (suc zero)))) f rest h l = omega arith
 sum-spread (suc (suc (suc (suc (suc n))))) f rest h l = absurd (omega (arith, l))
+
+-- there is nothing of one that isn't there
+not_there : (n i x y : ℕ) → 1 ≤ n → n ≤ i → cond (nat_lt i (n - 1)) x (cond (i == n - 1) y 0) ≡ 0
+not_there n i x y h l =
+    let free : nat_lt i (n - 1) ≡ false = le-ltb i (n - 1) (omega (arith, l)) in
+    let last : (i == n - 1) ≡ false = grind (arith, h, l) in
+    rw (free, last) refl
+
+pub spread-past : (n : ℕ) (f : ℕ → ℕ) (rest i : ℕ) → 1 ≤ n → n ≤ i → slice_index (spread n f rest) i ≡ 0
+unfolding list_below
+spread-past n f rest zero h l = not_there n 0 (f 0) rest h l
+spread-past n f rest (suc zero) h l = not_there n 1 (f 1) rest h l
+spread-past n f rest (suc (suc zero)) h l = not_there n 2 (f 2) rest h l
+spread-past n f rest (suc (suc (suc zero))) h l = not_there n 3 (f 3) rest h l
+spread-past n f rest (suc (suc (suc (suc i)))) h l = refl
 
 -- ---- in the units of the packing
 scaled_choice : (b b' : Bool) (x sum : ℕ) → cond b x (cond b' (2 ^ 20 - sum) 0) * 2 ^ 20 ≡ cond b (x * 2 ^ 20) (cond b' (one - sum * 2 ^ 20) 0)

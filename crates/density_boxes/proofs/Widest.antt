@@ -2,7 +2,7 @@
 use Rattle.std.proofs.Common.{◌≡◌, ℕ, zero, suc, ◌-◌, ◌*◌, ◌^◌, ◌<◌, ◌≤◌, Bool, true, false, ◌&&◌, inl, inr, refl, arith}
 use Rattle.std.specs.Prelude.{nat_le}
 use Rattle.std.proofs.lemmas.Bool.{cases_lt, lt-ltb, le-ltb, leb-false}
-use Rattle.case_types.specs.Cells.{Region, edge_length, widest_below}
+use Rattle.case_types.specs.Grid.Cells.{Region, edge_length, widest_below}
 use Rattle.log_laws.specs.Sums.{all_below}
 
 pub widest_none : (r : Region) → 0 ≡ widest_below r 0

@@ -1,6 +1,6 @@
 -- How often a cell can still be halved.
 use Rattle.std.specs.Prelude.{ℕ, ◌^◌, cond, nat_lt}
-use Rattle.case_types.specs.Cells.{Region, edge_length}
+use Rattle.case_types.specs.Grid.Cells.{Region, edge_length}
 use Rattle.log_laws.specs.Sums.{sum_below}
 
 -- how many powers of two are below a length of at most 2^40: so often it can be halved, rounded up, until it is 1

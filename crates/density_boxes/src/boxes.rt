@@ -1,7 +1,7 @@
 //! The whole domain, and the compositions of a cell.
 
 ghost use Rattle.std.specs.Prelude.{◌≡◌, ◌≤◌, ◌+◌, ◌-◌, ◌*◌, ◌^◌, IsFalse, cond, nat_lt, slice_index};
-ghost use Rattle.case_types.specs.Cells.{root_region, region_of, misses as region_misses, box_of_region};
+ghost use Rattle.case_types.specs.Grid.Cells.{root_region, region_of, misses as region_misses, box_of_region};
 ghost use Rattle.log_laws.specs.Sums.{list_below};
 ghost use Rattle.density_boxes.specs.Halvings.{halvings_left};
 

@@ -1,7 +1,7 @@
 //! The edge of a cell that is halved.
 
 ghost use Rattle.std.specs.Prelude.{◌≡◌, ◌≤◌, ◌<◌, ◌↔◌, ◌⊎◌, ◌-◌, ◌*◌, ◌^◌, IsTrue, nat_le};
-ghost use Rattle.case_types.specs.Cells.{region_of, edge_to_halve as named_edge, edge_length, widest_below, is_unit as has_unit};
+ghost use Rattle.case_types.specs.Grid.Cells.{region_of, edge_to_halve as named_edge, edge_length, widest_below, is_unit as has_unit};
 ghost use Rattle.log_laws.specs.Sums.{all_below};
 
 use crate::fractions::WHOLE;

@@ -1,7 +1,7 @@
 //! Fractions in 2^-20: those that are free, and the last, which is what they leave of 1.
 
 ghost use Rattle.std.specs.Prelude.{◌≡◌, ◌≤◌, ◌-◌, ◌^◌, ◌==◌, cond, nat_lt, slice_index};
-ghost use Rattle.case_types.specs.Cells.{free_sum as sum_of_free};
+ghost use Rattle.case_types.specs.Grid.Cells.{free_sum as sum_of_free};
 ghost use Rattle.log_laws.specs.Sums.{list_below};
 
 use case_types::SLOTS;

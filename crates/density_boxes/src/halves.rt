@@ -1,7 +1,7 @@
 //! The halves of a cell.
 
 ghost use Rattle.std.specs.Prelude.{◌≡◌, ◌≤◌, ◌<◌};
-ghost use Rattle.case_types.specs.Cells.{region_of, lower_half, upper_half, edge_length};
+ghost use Rattle.case_types.specs.Grid.Cells.{region_of, lower_half, upper_half, edge_length};
 ghost use Rattle.density_boxes.specs.Halvings.{halvings_left};
 
 use crate::edges::PACKING;

@@ -1,4 +1,4 @@
-//! The cells of the search: boxes of compositions times ranges of packing fractions.
+//! The cells of the search: boxes of compositions times ranges of packing fractions; and a tangent plane over a box.
 //!
 //! A cell bounds the free fractions, which are all but the last of `n` components, and the packing fraction. Edges 0, 1 and
 //! 2 are the free fractions, in 2^-20, and edge 3 is the packing, in 2^-40. Where there are fewer than four components, the
@@ -10,6 +10,7 @@ mod edges;
 mod fractions;
 mod halves;
 mod midpoints;
+mod planes;
 #[cfg(test)]
 mod tests;
 
@@ -17,3 +18,4 @@ pub use boxes::{cell_box, misses, root};
 pub use edges::{PACKING, edge_to_halve, is_unit};
 pub use halves::halve;
 pub use midpoints::midpoint;
+pub use planes::plane_hi;

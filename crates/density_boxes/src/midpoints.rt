@@ -1,9 +1,9 @@
 //! The middle of a cell on the grid.
 
-ghost use Rattle.std.specs.Prelude.{◌≡◌, ◌≤◌, ◌<◌, ◌^◌, IfSome, slice_index};
+ghost use Rattle.std.specs.Prelude.{◌≡◌, ◌≤◌, ◌<◌, IfSome};
 ghost use Rattle.std.specs.Option.{option_map};
-ghost use Rattle.case_types.specs.Cells.{region_of, midpoint as region_midpoint, middle_of};
-ghost use Rattle.log_laws.specs.Sums.{sum_below};
+ghost use Rattle.case_types.specs.Grid.Cells.{region_of, midpoint as region_midpoint, middle_of};
+ghost use Rattle.case_types.specs.Grid.Columns.{IsGridPoint};
 
 use crate::fractions::{WHOLE, composition, free_sum, rest_of};
 use case_types::{Cell, SLOTS};
@@ -14,8 +14,7 @@ pub fn midpoint(n: u8, cell: &Cell) -> Option<([u32; SLOTS], u64)>
     requires one { 1 ≤ n }
     requires four { n ≤ 4 }
     ensures value { option_map (λ m. record { composition = m.0; packing = m.1 }) result ≡ region_midpoint n (region_of cell.now) }
-    ensures packing { IfSome result (λ m. (1 ≤ m.1) × (m.1 < 2 ^ 40)) }
-    ensures composition { IfSome result (λ m. sum_below 4 (slice_index m.0) ≡ 2 ^ 20) }
+    ensures point { IfSome result (λ m. IsGridPoint n (record { composition = m.0; packing = m.1 })) }
 {
     let middles = [middle(cell, 0), middle(cell, 1), middle(cell, 2)];
     let sum = free_sum(n, &middles);

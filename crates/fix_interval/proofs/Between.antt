@@ -9,7 +9,7 @@ use Rattle.log_laws.specs.Whole.{floor_over, ceil_over, floor_div, ceil_div, pos
 use Rattle.log_laws.specs.Fraction.{Fraction, sum_of, negated, difference, product_of, quotient_of}
 use Rattle.log_laws.specs.Between.{Ends, IsBetween}
 use Rattle.log_laws.proofs.Exports.{mul-le_ℤ, add-mul_ℤ, neg-mul, ≤ℤ_trans, scale_scale, scale_turned, add_above, add_below, product_low, product_high}
-use Rattle.fix_interval.specs.Interval.{ends}
+use Rattle.log_laws.specs.Interval.{ends}
 use Rattle.fix_interval.specs.Extremes.{least_of_four, greatest_of_four, nearest_to_zero}
 use Rattle.fix_interval.proofs.Cancel.{le-of_mul-le_ℤ, scales_swapped, product_cancels_low, product_cancels_high}
 use Rattle.fix_interval.proofs.Corners.{least_bounds, greatest_bounds}

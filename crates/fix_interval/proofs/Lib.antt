@@ -5,3 +5,5 @@ pub mod Nearest
 pub mod Division
 pub mod LongDivision
 pub mod Wrapped
+pub mod Steps
+pub mod Exports

@@ -5,7 +5,7 @@ use Rattle.std.proofs.lemmas.Int.{ints, clamps, to_z_pos, unsigned_abs-mul}
 use Rattle.std.proofs.lemmas.Nat.{mul-lt, one_shl, pow_below}
 use Rattle.log_laws.specs.Whole.{floor_div, ceil_div}
 use Rattle.log_laws.proofs.Exports.{back}
-use Rattle.fix_interval.specs.declared.iv.Iv.{Iv}
+use Rattle.log_laws.specs.declared.iv.Iv.{Iv}
 use Rattle.fix_interval.specs.Extremes.{least_of_four, greatest_of_four, least_product, greatest_product}
 use Rattle.fix_interval.proofs.Corners.{least_small, greatest_small}
 

@@ -2,7 +2,7 @@
 use Rattle.std.specs.Prelude.{ℕ, ◌^◌, ℤ, pos, ◌*ℤ◌}
 use Rattle.std.specs.Int.{int_min, int_max}
 use Rattle.log_laws.specs.Whole.{floor_div, ceil_div}
-use Rattle.fix_interval.specs.declared.iv.Iv.{Iv}
+use Rattle.log_laws.specs.declared.iv.Iv.{Iv}
 
 abbrev pub least_of_four : ℤ → ℤ → ℤ → ℤ → ℤ
 least_of_four a b c d = int_min (int_min a b) (int_min c d)

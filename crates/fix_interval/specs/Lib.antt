@@ -1,2 +1,1 @@
-pub mod Interval
 pub mod Extremes

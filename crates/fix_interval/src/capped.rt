@@ -2,7 +2,7 @@
 
 ghost use Rattle.std.specs.Prelude.{◌≡◌, ◌<◌, ◌^◌, ◌≤ℤ◌, ◌↔◌, IsSome, IfSome, unsigned_abs};
 
-use super::iv::Iv;
+use log_laws::Iv;
 
 /// The interval from `lo` to `hi`; `None` where they are out of order, or one has size 2^61 or
 /// more.

@@ -4,7 +4,7 @@ ghost use Rattle.std.specs.Prelude.{◌≡◌, ◌<◌, ◌≤◌, ◌^◌, ◌*
 ghost use Rattle.log_laws.specs.Whole.{floor_over, ceil_over};
 ghost use Rattle.fix_interval.specs.Extremes.{least_product, greatest_product, least_square, greatest_square};
 
-use super::iv::Iv;
+use log_laws::Iv;
 
 /// The product of two ends.
 fn product(x: i128, y: i128) -> i128

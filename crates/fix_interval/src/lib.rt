@@ -8,7 +8,7 @@
 
 mod capped;
 mod extremes;
-mod iv;
+mod linear;
 mod ops;
 mod products;
 mod quotients;
@@ -17,7 +17,8 @@ mod ratio;
 mod tests;
 
 pub use capped::cap;
-pub use iv::Iv;
+pub use linear::{affine_high, affine_low};
+pub use log_laws::Iv;
 pub use ops::{add, hull, sub};
 pub use products::{mul_ends, mul_shift, square_shift};
 pub use quotients::{div_ends, div_shift};

@@ -4,9 +4,9 @@ ghost use Rattle.std.specs.Prelude.{◌≡◌, ℕ, ◌<◌, ◌^◌, ◌+ℤ◌
 ghost use Rattle.std.specs.Int.{int_min, int_max};
 ghost use Rattle.log_laws.specs.Fraction.{Fraction, sum_of, difference};
 ghost use Rattle.log_laws.specs.Between.{IsBetween};
-ghost use Rattle.fix_interval.specs.Interval.{ends_of};
+ghost use Rattle.log_laws.specs.Interval.{ends_of};
 
-use super::iv::Iv;
+use log_laws::Iv;
 
 /// The interval of the sums of a value of `a` and a value of `b`, all three at one scale. Nothing
 /// is rounded. The ends of the result are to be of size below 2^62.

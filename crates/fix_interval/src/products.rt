@@ -4,11 +4,11 @@ ghost use Rattle.std.specs.Prelude.{◌≡◌, ℕ, ◌*◌, ◌<◌, ◌≤◌,
 ghost use Rattle.log_laws.specs.Whole.{floor_over, ceil_over};
 ghost use Rattle.log_laws.specs.Fraction.{Fraction, product_of};
 ghost use Rattle.log_laws.specs.Between.{IsBetween};
-ghost use Rattle.fix_interval.specs.Interval.{ends, ends_of};
+ghost use Rattle.log_laws.specs.Interval.{ends, ends_of};
 ghost use Rattle.fix_interval.specs.Extremes.{least_product, greatest_product, least_square, greatest_square};
 
 use super::extremes::{outward, product_extremes, square_extremes};
-use super::iv::Iv;
+use log_laws::Iv;
 
 /// The ends of the products of a value of `a` and a value of `b`, over 2^`shift`: the least
 /// rounded down, the greatest up. They may be of any size that such products have.

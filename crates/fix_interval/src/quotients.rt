@@ -4,10 +4,10 @@ ghost use Rattle.std.specs.Prelude.{◌≡◌, ℕ, ◌*◌, ◌<◌, ◌≤◌,
 ghost use Rattle.log_laws.specs.Whole.{floor_div, ceil_div};
 ghost use Rattle.log_laws.specs.Fraction.{Fraction, quotient_of};
 ghost use Rattle.log_laws.specs.Between.{IsBetween};
-ghost use Rattle.fix_interval.specs.Interval.{ends, ends_of};
+ghost use Rattle.log_laws.specs.Interval.{ends, ends_of};
 ghost use Rattle.fix_interval.specs.Extremes.{least_quotient, greatest_quotient};
 
-use super::iv::Iv;
+use log_laws::Iv;
 
 /// `z` times 2^`shift`.
 fn scaled(z: i128, shift: u32) -> i128

@@ -4,7 +4,7 @@ ghost use Rattle.std.specs.Prelude.{◌≡◌, ◌*◌, ◌/◌, ◌%◌, ◌<�
 ghost use Rattle.log_laws.specs.Whole.{ceil_quotient};
 ghost use Rattle.log_laws.specs.LogSum.{ratio};
 ghost use Rattle.log_laws.specs.Between.{IsBetween};
-ghost use Rattle.fix_interval.specs.Interval.{ends};
+ghost use Rattle.log_laws.specs.Interval.{ends};
 
 /// `num`*2^`bits` over `den`, rounded down, and what is left, by long division in binary digits.
 fn long_division(num: u128, den: u128, bits: u32) -> (u128, u128)

@@ -1,9 +1,11 @@
 -- What the program is asked of itself.
-use Rattle.std.specs.Prelude.{ℕ, List, [], ◌∷◌, Bool, false, ◌||◌, codes}
+use Rattle.std.specs.Prelude.{ℕ, List, [], ◌∷◌, if◌then◌else◌, Option, Some, None, codes}
 use Rattle.std.specs.Str.{bytes_eq}
 
--- the only word is `--help` or `--version`
-abbrev pub asks_of_itself : List (List ℕ) → Bool
-asks_of_itself [] = false
-asks_of_itself (word ∷ []) = bytes_eq word (codes "--help") || bytes_eq word (codes "--version")
-asks_of_itself (word ∷ more ∷ words) = false
+-- the text that the only word asks for: the help, or the version
+abbrev pub text_asked : List ℕ → List ℕ → List (List ℕ) → Option (List ℕ)
+text_asked help version [] = None
+text_asked help version (word ∷ []) =
+    if bytes_eq word (codes "--help") then Some help
+    else (if bytes_eq word (codes "--version") then Some version else None)
+text_asked help version (word ∷ more ∷ words) = None

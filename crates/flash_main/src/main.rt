@@ -4,34 +4,49 @@
 mod help;
 
 use flash_run::{RunEnd, Word, run};
-use help::text_for;
-use io_edge::{StdSink, StdSource, write_all};
+use help::{tell, text_for};
+use io_edge::{StdSink, StdSource};
+use std::alloc::AllocError;
+use std::env::FillError;
 use std::process::ExitCode;
 use std::rt::Env;
-use std::{env, io};
 
-/// The words after the program's name.
-fn words_of(rt: &(impl Env + AllocGlobal)) -> io::Result<Vec<Word>> {
+/// The words after the program's name, as their bytes.
+fn words_of(rt: &(impl Env + AllocGlobal)) -> Result<Vec<Word>, AllocError> {
     let mut words = Vec::new(rt.alloc());
-    for arg in env::args(rt)?.skip(1) {
-        words.push(Word::new(arg.into_bytes()))?;
+    for at in 1..usize::MAX {
+        let Some(bytes) = word_at(rt, at)? else {
+            break;
+        };
+        words.push(Word::new(bytes))?;
     }
     Ok(words)
 }
 
+/// The bytes of the word at a place, or none past the last.
+fn word_at(rt: &(impl Env + AllocGlobal), at: usize) -> Result<Option<Vec<u8>>, AllocError> {
+    // A buffer twice as large, until the word has room.
+    for power in 8..40u32 {
+        let mut buffer = vec![in rt.alloc(); 0u8; 1 << power]?;
+        match rt.arg(at, &mut buffer) {
+            Ok(count) => {
+                buffer.truncate(count);
+                return Ok(Some(buffer));
+            }
+            Err(FillError::NotPresent) => return Ok(None),
+            Err(FillError::TooLong) => {}
+        }
+    }
+    Err(AllocError)
+}
+
 fn main(rt: HostRuntime) -> ExitCode {
-    let words = match words_of(&rt) {
-        Ok(words) => words,
-        Err(error) if error.kind() == io::ErrorKind::OutOfMemory => return ExitCode::from(8),
-        // A word isn't UTF-8: the run goes on with no words, and refuses them.
-        Err(_) => Vec::new(rt.alloc()),
+    let Ok(words) = words_of(&rt) else {
+        return ExitCode::from(8);
     };
     let mut sink = StdSink::new(rt.stdout());
     if let Some(text) = text_for(&words) {
-        return match write_all(&mut sink, text.as_bytes()) {
-            Ok(()) => ExitCode::from(0),
-            Err(_) => ExitCode::from(7),
-        };
+        return ExitCode::from(tell(&mut sink, text));
     }
     let mut source = StdSource::new(rt.stdin());
     let RunEnd { status, end: _ } = run(rt.alloc(), &words, &mut source, &mut sink);

@@ -4,10 +4,10 @@ use Rattle.std.specs.Fmt.{signed_decimal}
 use Rattle.case_types.specs.declared.cases.Case.{Case}
 use Rattle.case_types.specs.declared.cases.Row.{Row}
 use Rattle.case_types.specs.declared.answers.Answer.{Answer}
-use Rattle.case_types.specs.Tables.{ends_at}
-use Rattle.fix_interval.specs.declared.iv.Iv.{Iv}
-use Rattle.fix_interval.specs.Interval.{ends_of}
-use Rattle.case_types.specs.Printed.{ends_in}
+use Rattle.case_types.specs.Arithmetic.Tables.{ends_at}
+use Rattle.log_laws.specs.declared.iv.Iv.{Iv}
+use Rattle.log_laws.specs.Interval.{ends_of}
+use Rattle.case_types.specs.Energy.Printed.{ends_in}
 use Rattle.flash_run.specs.Pieces.{texts_below, line}
 use Rattle.flash_run.specs.ReportText.{name_text, plane_text}
 

@@ -6,7 +6,8 @@ use Rattle.io_edge.specs.Bytes.{ahead}
 use Rattle.io_edge.specs.Reading.{TakesAtMost}
 use Rattle.flash_run.specs.declared.ends.End.{End}
 use Rattle.flash_run.specs.declared.ends.End.TheVariants.{Words, Read, TooLong, Table, Case, Unbuilt, Flash, Memory}
-use Rattle.flash_run.specs.Ends.{Takes, TakesWhole, table_limit}
+use Rattle.flash_run.specs.Headline.{table_limit}
+use Rattle.flash_run.specs.Ends.{Takes, TakesWhole}
 
 nothing_ahead : (left : Option (List ℕ)) → left ≡ ahead [] left
 nothing_ahead None = refl

@@ -1,27 +1,27 @@
 -- What an end says of its status, of its cause and of the source.
-use Rattle.std.specs.Prelude.{◌≡◌, ⊤, ℕ, ◌+◌, ◌*◌, ◌^◌, ◌<◌, ◌≤◌, ◌⊎◌, List, length, pos, ◌≤ℤ◌, Ok, Err, Some, None}
+use Rattle.std.specs.Prelude.{◌≡◌, ⊤, ℕ, ◌+◌, ◌<◌, ◌⊎◌, List, length, Ok, Err, Some, None}
 use Rattle.std.specs.declared.option.Option.{Option}
 use Rattle.case_types.specs.declared.answers.Answer.{Answer}
 use Rattle.case_types.specs.declared.answers.Outcome.{Outcome}
 use Rattle.case_types.specs.declared.answers.Outcome.TheVariants.{Closed, Spent, Grain}
 use Rattle.case_types.specs.declared.cases.ParamFault.{ParamFault}
-use Rattle.case_types.specs.Divisions.{Certified, division_of}
-use Rattle.case_types.specs.Faults.{fault_of}
-use Rattle.case_types.specs.Lawful.{IsLawful}
-use Rattle.case_types.specs.Printed.{enclosures_in}
+use Rattle.case_types.specs.Arithmetic.Faults.{fault_of}
+use Rattle.case_types.specs.Arithmetic.Numbers.{numbers_of}
 use Rattle.case_words.specs.Jobs.{Asked, PlainTp, job_of}
 use Rattle.component_table.specs.declared.cases.CaseFault.{CaseFault}
 use Rattle.component_table.specs.declared.cases.CaseFault.TheVariants.{Param}
 use Rattle.component_table.specs.declared.cases.Picked.{Picked}
 use Rattle.component_table.specs.CsvText.{records_of}
-use Rattle.component_table.specs.Picking.{Picks, Refuses}
+use Rattle.component_table.specs.Picking.{Refuses}
 use Rattle.component_table.specs.Tables.{Held, table_of}
+use Rattle.energy_surface.specs.Lawful.{IsLawful}
 use Rattle.pr_params.specs.declared.numbers.Params.{Params}
-use Rattle.io_edge.specs.Bytes.{ahead, IsSpent}
+use Rattle.pr_surface.specs.PengRobinson.{surface_of}
 use Rattle.io_edge.specs.Causes.{CountsFault}
 use Rattle.io_edge.specs.Reading.{TakesAtMost, TakesExactly}
 use Rattle.flash_run.specs.declared.ends.End.{End}
 use Rattle.flash_run.specs.declared.ends.End.TheVariants.{Words, Read, TooLong, Table, Case, Unbuilt, Flash, Memory}
+use Rattle.flash_run.specs.Headline.{table_limit, IsAll, IsCase}
 
 -- ---- the status
 -- of a flash
@@ -54,10 +54,6 @@ IsReportable (Flash params picked tol answer) = params.case.n ≡ 1
 IsReportable Memory = ⊤
 
 -- ---- the source
--- the most bytes of a table
-abbrev pub table_limit : ℕ
-table_limit = 4194304
-
 -- one fault of the source was counted at Read, and none where words, table or case were judged
 abbrev pub CountsRead : End → ℕ → ℕ → Type 0
 CountsRead (Words fault) faults faults' = faults' ≡ faults
@@ -68,12 +64,6 @@ CountsRead (Case fault) faults faults' = faults' ≡ faults
 CountsRead Unbuilt faults faults' = faults' ≡ faults
 CountsRead (Flash params picked tol answer) faults faults' = faults' ≡ faults
 CountsRead Memory faults faults' = (faults' ≡ faults) ⊎ CountsFault faults faults'
-
--- these bytes, at most the limit, were all that the source had left
-pub record IsAll (left left' : Option (List ℕ)) (bytes : List ℕ) : Type 0 where
-  pub short : length bytes ≤ table_limit
-  pub taken : left ≡ ahead bytes left'
-  pub ended : IsSpent left'
 
 -- the source was read to its end
 abbrev pub TakesWhole : Option (List ℕ) → Option (List ℕ) → Type 0
@@ -92,12 +82,6 @@ Takes (Flash params picked tol answer) left left' = TakesWhole left left'
 Takes Memory left left' = TakesAtMost (table_limit + 1) left left'
 
 -- ---- the cause
--- the case of what is asked, in the table of these bytes
-pub record IsCase (asked : Asked) (bytes : List ℕ) (picked : Picked) : Type 0 where
-  pub held : Held
-  pub table : table_of (records_of bytes) ≡ Ok held
-  pub picks : Picks held asked picked
-
 -- the first name that has no component in the table of these bytes
 pub record IsRefusedName (asked : Asked) (bytes : List ℕ) (fault : CaseFault) : Type 0 where
   pub held : Held
@@ -119,18 +103,11 @@ pub record IsUnbuilt (asked : Asked) (bytes : List ℕ) : Type 0 where
   pub accepted : fault_of picked.case ≡ None
   pub more : 1 < picked.case.n
 
--- a flash of one live component into one phase: the certified answer, with its list of work, at the tolerance and the budget
--- that are asked
-pub record IsFlash (asked : Asked) (bytes : List ℕ) (p : Params) (picked : Picked) (tol : ℕ) (a : Answer) : Type 0 where
-  pub case_is : IsCase asked bytes picked
-  pub case : p.case ≡ picked.case
+-- a flash of one live component into one phase, whose list of work is lawful at the tolerance and the budget that are asked
+pub record IsLawfulFlash (asked : Asked) (p : Params) (a : Answer) : Type 0 where
   pub one : p.case.n ≡ 1
-  pub tol_is : tol ≡ asked.tol
   pub one_phase : length a.split.phases.items ≡ 1
-  -- of the printed split, energy and gap, with the printed pairs
-  pub certified : Certified p.case (enclosures_in p.case.n p.two p.e p.t p.q) (division_of a.split) a.u a.gap
-  pub near : a.outcome ≡ Closed → a.gap ≤ℤ pos (3 * tol * 2 ^ 18)
-  pub lawful : IsLawful p.case tol asked.budget a
+  pub lawful : IsLawful (surface_of (numbers_of p.case)) p.case asked.tol asked.budget a
 
 -- what comes of what is asked and of the bytes of a table; want of memory has no cause here
 abbrev pub Judges : Asked → List ℕ → End → Type 0
@@ -140,7 +117,7 @@ Judges asked bytes TooLong = ⊥
 Judges asked bytes (Table fault) = table_of (records_of bytes) ≡ Err fault
 Judges asked bytes (Case fault) = IsRefusedName asked bytes fault ⊎ IsRefusedRange asked bytes fault
 Judges asked bytes Unbuilt = IsUnbuilt asked bytes
-Judges asked bytes (Flash params picked tol answer) = IsFlash asked bytes params picked tol answer
+Judges asked bytes (Flash params picked tol answer) = IsLawfulFlash asked params answer
 Judges asked bytes Memory = ⊤
 
 -- the words ask for a flash

@@ -1,4 +1,5 @@
 pub mod Pieces
 pub mod RefusalText
 pub mod ReportText
+pub mod Headline
 pub mod Ends

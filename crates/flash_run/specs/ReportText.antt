@@ -8,10 +8,10 @@ use Rattle.case_types.specs.declared.phases.Phase.{Phase}
 use Rattle.case_types.specs.declared.answers.Answer.{Answer}
 use Rattle.case_types.specs.declared.answers.Outcome.{Outcome}
 use Rattle.case_types.specs.declared.answers.Outcome.TheVariants.{Closed, Spent, Grain}
-use Rattle.case_types.specs.Instances.{Enclosures, pair_place}
-use Rattle.case_types.specs.Tables.{ends_at}
+use Rattle.case_types.specs.Energy.Instances.{Enclosures, pair_place}
+use Rattle.case_types.specs.Arithmetic.Tables.{ends_at}
 use Rattle.pr_params.specs.declared.numbers.Params.{Params}
-use Rattle.case_types.specs.Printed.{enclosures_in}
+use Rattle.case_types.specs.Energy.Printed.{enclosures_in}
 use Rattle.case_words.specs.Names.{text_of}
 use Rattle.component_table.specs.declared.cases.Picked.{Picked}
 use Rattle.flash_run.specs.declared.ends.End.{End}

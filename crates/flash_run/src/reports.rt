@@ -1,7 +1,7 @@
 //! The report.
 
 ghost use Rattle.std.specs.Prelude.{◌≡◌, ◌<◌, ◌≤◌, OnOk, IfOk, length};
-ghost use Rattle.case_types.specs.Printed.{enclosures_in};
+ghost use Rattle.case_types.specs.Energy.Printed.{enclosures_in};
 ghost use Rattle.flash_run.specs.Ends.{IsReportable};
 ghost use Rattle.flash_run.specs.Pieces.{Adds, texts_below};
 ghost use Rattle.flash_run.specs.ReportText.{report_text, flash_text, conditions_text, split_text, phases_text, phase_text, part_text, part_of, plane_text, enclosures_text};

@@ -51,7 +51,7 @@ fn run_in_pieces(
 }
 
 /// Words, a table, the status and the report of their run.
-const REFUSED: [(&str, &str, u8, &str); 32] = [
+const REFUSED: [(&str, &str, u8, &str); 34] = [
     // Words.
     ("", "", 2, "refused words NoCommand\n"),
     ("pt T=300", "", 2, "refused words NoCommand\n"),
@@ -75,6 +75,18 @@ const REFUSED: [(&str, &str, u8, &str); 32] = [
         "",
         2,
         "refused words Missing budget\n",
+    ),
+    (
+        "tp T=300 P=1000000 z=1 names=a tol=1024 budget=10 kappa=77",
+        "",
+        2,
+        "refused words Range 8\n",
+    ),
+    (
+        "tp T=300 P=1000000 z=1 names=a tol=1024 budget=10 kappa=x",
+        "",
+        2,
+        "refused words Value 8 Digit\n",
     ),
     ("tp", "", 2, "refused words Missing T\n"),
     // Tables.
@@ -256,6 +268,24 @@ fn prints_names_without_a_part(rt: HostRuntime) -> Result<(), Fail> {
         want.extend_from_slice(AFTER_NAMES.as_bytes())?;
         assert_eq!(rt; sink.held(), want.as_slice(), "{words}");
     }
+    Ok(())
+}
+
+/// The report of methane at 150 K and 10000 Pa at a finer tolerance, as an independent program prints it.
+const DILUTE: &str = "closed units=111\nT=150.000 P=10000 tol=1024\nenergy=1583869078620\n\
+    gap=471014896\nsum=1 phases=1\nphase 1 vapour packing=234881024\npart methane 1\n\
+    plane 1583869079552\nlow=-471015828\n\
+    two 1630477228166597776 1630477228166597777\ne 1586259924992 1586260020565\n\
+    t methane 249726707501365 249726707501366\n";
+
+#[test]
+fn flashes_dilute_vapour(rt: HostRuntime) -> Result<(), Fail> {
+    let alloc = rt.alloc();
+    let words = "tp T=150 P=10000 z=1 names=methane tol=1024 budget=20000";
+    let table = b"comp,methane,190.564,4599200,0.0114,\n".to_vec(alloc)?;
+    let (status, sink) = run_in_pieces(alloc, words, table, 4096, &[], &[])?;
+    assert_eq!(rt; status, 0);
+    assert_eq!(rt; sink.held(), DILUTE.as_bytes());
     Ok(())
 }
 

@@ -4,12 +4,12 @@ ghost use Rattle.std.specs.Prelude.{◌≡◌, OnOk};
 ghost use Rattle.case_words.specs.Names.{text_of};
 ghost use Rattle.flash_run.specs.Pieces.{Adds, line, ends_line, thousandths_text};
 ghost use Rattle.flash_run.specs.ReportText.{state_text, outcome_text};
-ghost use Rattle.fix_interval.specs.Interval.{ends_of};
+ghost use Rattle.log_laws.specs.Interval.{ends_of};
 
 use case_types::{Name, Outcome};
 use case_words::name_text;
-use fix_interval::Iv;
 use itoa::{Buffer, Integer};
+use log_laws::Iv;
 use std::alloc::AllocError;
 
 /// Appends a text.

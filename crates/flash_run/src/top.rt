@@ -6,6 +6,7 @@ ghost use Rattle.io_edge.specs.Causes.{CountsFault};
 ghost use Rattle.io_edge.specs.Writing.{WritesAll, WritesSome};
 ghost use Rattle.flash_run.specs.ReportText.{report_text};
 ghost use Rattle.flash_run.specs.Ends.{status_of, IsReportable, CountsRead, Takes, Judges, Comes};
+ghost use Rattle.flash_run.specs.Headline.{Certifies, Answers};
 
 use crate::ends::{End, RunEnd};
 use crate::reports::report;
@@ -29,6 +30,9 @@ pub fn run<S: Source, K: Sink>(
     source: &mut S,
     sink: &mut K,
 ) -> RunEnd
+    // Every flash is certified, for the words and all bytes of the input.
+    ensures headline { Answers words.now.items (S.left source.old) (S.left source.new) result.end }
+
     ensures status { (result.status ≡ 7) ⊎ (result.status ≡ status_of result.end) }
     ensures memory { result.end ≡ End.Memory → result.status ≡ 8 }
 
@@ -48,8 +52,9 @@ pub fn run<S: Source, K: Sink>(
     ensures takes { Takes result.end (S.left source.old) (S.left source.new) }
     ensures takes_once { S.faults source.new ≤ S.faults source.old + 1 }
     ensures last_take { result.end ≡ End.Read → S.failed source.new ≡ true }
+    ensures last_fault { S.faults source.new ≢ S.faults source.old → S.failed source.new ≡ true }
 
-    // Why this is the end: of words, table and case the first fault, or else the certified flash.
+    // Why this is the end: of words, table and case the first fault, or else the flash with its lawful list of work.
     ensures cause { Comes words.now.items (S.left source.old) (S.left source.new) result.end }
 {
     let end = work(alloc, words, source);
@@ -68,9 +73,11 @@ pub fn run<S: Source, K: Sink>(
 
 /// What the words and the input come to.
 fn work<S: Source>(alloc: Global, words: &Vec<Word>, source: &mut S) -> End
+    ensures headline { Answers words.now.items (S.left source.old) (S.left source.new) result }
     ensures takes { Takes result (S.left source.old) (S.left source.new) }
     ensures reads { CountsRead result (S.faults source.old) (S.faults source.new) }
     ensures last_take { result ≡ End.Read → S.failed source.new ≡ true }
+    ensures last_fault { S.faults source.new ≢ S.faults source.old → S.failed source.new ≡ true }
     ensures cause { Comes words.now.items (S.left source.old) (S.left source.new) result }
     ensures reportable { IsReportable result }
 {
@@ -90,7 +97,8 @@ fn work<S: Source>(alloc: Global, words: &Vec<Word>, source: &mut S) -> End
 /// What comes of a job and of the bytes of a table.
 fn judge(alloc: Global, job: &FlashWords, bytes: &[u8]) -> End
     requires { length bytes.now ≤ 4194304 }
-    ensures { Judges (asked_by job.now) bytes.now result }
+    ensures certified { Certifies (asked_by job.now) bytes.now result }
+    ensures cause { Judges (asked_by job.now) bytes.now result }
 {
     let table = match read_table(alloc, bytes) {
         Ok(table) => table,

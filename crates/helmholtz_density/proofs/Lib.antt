@@ -1,9 +1,7 @@
 pub mod Terms
-pub mod Energy
 pub mod MixingHigh
 pub mod EnergyHigh
-pub mod BoxOfParts
-pub mod Shares
 pub mod Weighed
 pub mod Parts
 pub mod SplitHigh
+pub mod Exports

@@ -9,13 +9,13 @@ use Rattle.log_laws.specs.Fraction.{whole, negated, product_of}
 use Rattle.log_laws.specs.LogSum.{LogSum, AtMost, times_log, ratio, scaled, constant}
 use Rattle.log_laws.specs.Squaring.{up as digits_up, log_up}
 use Rattle.log_laws.specs.Whole.{ceil_div}
-use Rattle.log_laws.proofs.Exports.{at_most_is_opposite, parts_self, parts_ratio, parts_product, product_pos, le-ceil_over, at_least_scales, one, lowered, minus_log, at_most_adds_at, at_most_raises, constant_at_most}
+use Rattle.log_laws.proofs.Exports.{at_most_is_opposite, parts_self, parts_ratio, parts_product, product_pos, le-ceil_over, at_least_scales, fraction_one, lowered, minus_log, at_most_adds_at, at_most_raises, constant_at_most}
 use Rattle.log_enclose.proofs.Exports.{log_up_at_most, log_up_power_high}
-use Rattle.case_types.specs.Bounds.{Box, mixing_up}
-use Rattle.case_types.specs.Divisions.{State, moles, bits, mixing_of, mixing, minus_log_of}
-use Rattle.case_types.specs.Holding.{IsInBox}
+use Rattle.case_types.specs.Arithmetic.Bounds.{Box, mixing_up}
+use Rattle.case_types.specs.Energy.Divisions.{State, moles, bits, mixing_of, mixing, minus_log_of}
+use Rattle.case_types.specs.Arithmetic.Holding.{IsInBox}
 use Rattle.log_laws.specs.Sums.{int_sum_below, log_sum_below}
-use Rattle.pr_params.proofs.Pull.{times_scaled, times_minus_one}
+use Rattle.pr_params.proofs.Exports.{times_scaled, times_minus_one}
 use Rattle.helmholtz_density.proofs.Terms.{mixing_none, mixing_some}
 
 -- ---- the logarithm of a fraction isn't positive
@@ -63,7 +63,7 @@ entropy_most xn xd a b u pxn pxd lo hi some small ceiling =
     let y = at_least_scales (ratio xn xd) (minus_log_of (ratio xn xd)) (bits (neg_ℤ l)) pxd (at_most_in (pos 0) (pos xn) (omega arith)) x in
     let p = ceiling_parts a l u ceiling (log_up_most b some small) in
     (at_most_is_opposite (times_log (ratio xn xd) (ratio xn xd)) (bits u)).1
-    (times_scaled (ratio xn xd) (negated one) (negated (ratio xn xd)) (ratio xn xd) (bits (neg_ℤ u)) pxd pxd (times_minus_one (ratio xn xd) pxd) (pxd, pxn)
+    (times_scaled (ratio xn xd) (negated fraction_one) (negated (ratio xn xd)) (ratio xn xd) (bits (neg_ℤ u)) pxd pxd (times_minus_one (ratio xn xd) pxd) (pxd, pxn)
     (lowered (scaled (ratio xn xd) (minus_log_of (ratio xn xd))) (product_of (ratio xn xd) (bits (neg_ℤ l))) (bits (neg_ℤ u))
     (parts_product (parts_ratio xn xd pxd) (parts_self (neg_ℤ l) (2 ^ 40) (lit< tt))) (parts_self (neg_ℤ u) (2 ^ 40) (lit< tt))
     (sides xn xd a (up (neg_ℤ l)) (down (neg_ℤ l)) (down (neg_ℤ u)) (up (neg_ℤ u)) p.0 lo p.1) y))

@@ -1,19 +1,19 @@
 -- The phases of a split that adds up: each has a part and no more than the sum, and a packing inside.
-use Rattle.std.proofs.Common.{ℕ, zero, suc, ◌+◌, ◌^◌, ◌<◌, ◌≤◌, ◌≡◌, sym, ap, subst, ◌∙◌, add-one, List, [], ◌∷◌, map, length, slice_index, slice_index_or, drop, ℤ, ◌+ℤ◌, arith}
+use Rattle.std.proofs.Common.{ℕ, zero, suc, ◌+◌, ◌^◌, ◌<◌, ◌≤◌, ◌≡◌, subst, add-one, List, [], ◌∷◌, map, length, slice_index, slice_index_or, drop, ℤ, ◌+ℤ◌, arith}
 use Rattle.std.proofs.Math.ListN.{get_or-map, length-map, drop_of_length-le}
 use Rattle.std.proofs.Math.Nat.{eq_of_mul-eq-mul_left}
 use Rattle.std.proofs.Math.Seq.{drop-cons}
 use Rattle.std.proofs.lemmas.Int.{ints}
-use Rattle.pr_params.proofs.Components.{total_positive}
+use Rattle.pr_params.proofs.Exports.{total_positive}
 use Rattle.log_laws.specs.Sums.{sum_below}
 use Rattle.log_laws.proofs.Exports.{sum_below-scaled, sum_below-scaled_same}
 use Rattle.case_types.specs.declared.cases.Case.{Case}
 use Rattle.case_types.specs.declared.phases.Phase.{Phase}
 use Rattle.case_types.specs.declared.phases.Split.{Split}
-use Rattle.case_types.specs.Bounds.{phases_up, phase_up, share_of_energy}
-use Rattle.case_types.specs.CaseWords.{feed}
-use Rattle.case_types.specs.Divisions.{Divides, IsState, division_of, state_of, parts_in}
-use Rattle.case_types.specs.Numbers.{Numbers}
+use Rattle.case_types.specs.Arithmetic.Bounds.{Box}
+use Rattle.case_types.specs.Energy.Components.{feed}
+use Rattle.case_types.specs.Energy.Divisions.{Divides, IsState, division_of, state_of, parts_in}
+use Rattle.case_types.specs.Arithmetic.Splits.{phases_up, phase_up, share_of_energy}
 
 -- a phase has no more of a component than all have
 part_at_most : (fs : List Phase) (k i : ℕ) (d : Phase) → k < length fs → slice_index (slice_index_or fs k d).parts i ≤ parts_in (map state_of fs) i
@@ -58,21 +58,17 @@ phase_of c s k d h l =
     }
 
 -- ---- the sum so far, and one phase more
-pub sum_step : (p : Numbers) (sum n : ℕ) (phases : List Phase) (k : ℕ) (d : Phase) (energy share : ℤ) → p.count ≡ n → k < length phases →
-    energy +ℤ phases_up p sum (drop k phases) ≡ phases_up p sum phases →
-    share ≡ share_of_energy (sum_below n (slice_index (slice_index_or phases k d).parts)) sum (phase_up p (slice_index_or phases k d)) →
-    (energy +ℤ share) +ℤ phases_up p sum (drop (k + 1) phases) ≡ phases_up p sum phases
+pub sum_step : (n : ℕ) (up : Box → ℕ → ℤ) (sum : ℕ) (phases : List Phase) (k : ℕ) (d : Phase) (energy share : ℤ) → k < length phases →
+    energy +ℤ phases_up n up sum (drop k phases) ≡ phases_up n up sum phases →
+    share ≡ share_of_energy (sum_below n (slice_index (slice_index_or phases k d).parts)) sum (phase_up n up (slice_index_or phases k d)) →
+    (energy +ℤ share) +ℤ phases_up n up sum (drop (k + 1) phases) ≡ phases_up n up sum phases
 unfolding phases_up
-sum_step p sum n phases k d energy share count l h e =
-    let step = rw (drop-cons phases k d l) at h in
-    let e' : share ≡ share_of_energy (sum_below p.count (slice_index (slice_index_or phases k d).parts)) sum (phase_up p (slice_index_or phases k d)) =
-    e ∙ ap (λ (m : ℕ). share_of_energy (sum_below m (slice_index (slice_index_or phases k d).parts)) sum (phase_up p (slice_index_or phases k d))) (sym count) in
-    rw add-one (joined energy share _ _ _ e' step)
+sum_step n up sum phases k d energy share l h e = let step = rw (drop-cons phases k d l) at h in rw add-one (joined energy share _ _ _ e step)
   where
     joined : (energy share s rest whole : ℤ) → share ≡ s → energy +ℤ (s +ℤ rest) ≡ whole → (energy +ℤ share) +ℤ rest ≡ whole
     joined energy share s rest whole e h = omega (arith, ints)
 
-pub sum_end : (p : Numbers) (sum : ℕ) (phases : List Phase) (k : ℕ) (energy : ℤ) → length phases ≤ k →
-    energy +ℤ phases_up p sum (drop k phases) ≡ phases_up p sum phases → energy ≡ phases_up p sum phases
+pub sum_end : (n : ℕ) (up : Box → ℕ → ℤ) (sum : ℕ) (phases : List Phase) (k : ℕ) (energy : ℤ) → length phases ≤ k →
+    energy +ℤ phases_up n up sum (drop k phases) ≡ phases_up n up sum phases → energy ≡ phases_up n up sum phases
 unfolding phases_up
-sum_end p sum phases k energy l h = let step = rw (drop_of_length-le phases l) at h in omega (arith, ints, step)
+sum_end n up sum phases k energy l h = let step = rw (drop_of_length-le phases l) at h in omega (arith, ints, step)

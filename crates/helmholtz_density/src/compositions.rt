@@ -2,10 +2,10 @@
 
 ghost use Rattle.std.specs.Prelude.{◌≡◌, ◌≤◌, ◌<◌, ◌^◌, cond, nat_lt, slice_index};
 ghost use Rattle.log_laws.specs.Sums.{sum_below};
-ghost use Rattle.case_types.specs.Bounds.{one, box_of_parts, share_down, share_up};
-ghost use Rattle.case_types.specs.Divisions.{state_of};
-ghost use Rattle.case_types.specs.Holding.{IsInBox};
-ghost use Rattle.pr_params.specs.Boxes.{box_of};
+ghost use Rattle.case_types.specs.Arithmetic.Bounds.{one, box_of_parts, share_down, share_up};
+ghost use Rattle.case_types.specs.Energy.Divisions.{state_of};
+ghost use Rattle.case_types.specs.Arithmetic.Holding.{IsInBox};
+ghost use Rattle.case_types.specs.Arithmetic.Bounds.{box_of};
 
 use case_types::{BoxX, Case, Phase};
 use fix_interval::ratio_ends;

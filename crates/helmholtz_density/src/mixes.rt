@@ -3,7 +3,7 @@
 ghost use Rattle.std.specs.Prelude.{◌≡◌, ◌≤◌, ◌<◌, ◌^◌, ◌*◌, pos, ◌*ℤ◌, unsigned_abs, slice_index};
 ghost use Rattle.log_laws.specs.Sums.{int_sum_below};
 ghost use Rattle.log_laws.specs.Whole.{ceil_div};
-ghost use Rattle.case_types.specs.Bounds.{mixing_up};
+ghost use Rattle.case_types.specs.Arithmetic.Bounds.{mixing_up};
 
 use case_types::BoxX;
 use log_enclose::log2_hi;

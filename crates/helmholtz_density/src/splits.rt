@@ -4,10 +4,11 @@ ghost use Rattle.std.specs.Prelude.{◌≡◌, ◌≤◌, ◌<◌, ◌^◌, ◌*
 ghost use Rattle.log_laws.specs.LogSum.{AtMost};
 ghost use Rattle.log_laws.specs.Whole.{ceil_div, floor_div, ceil_quotient};
 ghost use Rattle.log_laws.specs.Sums.{sum_below};
-ghost use Rattle.case_types.specs.Bounds.{phase_up, share_of_energy, split_up};
-ghost use Rattle.case_types.specs.Divisions.{Divides, division_of, energy_of_division, bits};
-ghost use Rattle.case_types.specs.Instances.{Instance, IsInstance};
-ghost use Rattle.case_types.specs.Numbers.{numbers_of, enclosures_of};
+ghost use Rattle.case_types.specs.Arithmetic.Bounds.{energy_up as up};
+ghost use Rattle.case_types.specs.Energy.Divisions.{Divides, division_of, energy_of_division, bits};
+ghost use Rattle.case_types.specs.Energy.Instances.{Instance, IsInstance};
+ghost use Rattle.case_types.specs.Arithmetic.Numbers.{numbers_of, enclosures_of};
+ghost use Rattle.case_types.specs.Arithmetic.Splits.{phase_up, share_of_energy, split_up};
 
 use crate::compositions::{moles, phase_box};
 use crate::upper::energy_up;
@@ -18,7 +19,7 @@ use pr_params::Params;
 /// The energy of the split is at most this, in 2^-40 bit for a mole of feed.
 pub fn split_energy(params: &Params, split: &Split) -> i128
     requires divides { Divides params.now.case (division_of split.now) }
-    ensures value { result ≡ split_up (numbers_of params.now.case) split.now }
+    ensures value { result ≡ split_up params.now.case.n (up (numbers_of params.now.case)) split.now }
     ensures at_most { (roots : Instance) →
         IsInstance params.now.case (enclosures_of params.now.case) roots →
         AtMost (energy_of_division params.now.case roots (division_of split.now)) (bits result) }
@@ -38,7 +39,7 @@ fn weighed_energy(params: &Params, sum: u128, phase: &Phase) -> i128
     requires packed { 1 ≤ phase.now.packing }
     requires not_full { phase.now.packing < 2 ^ 40 }
     ensures value { result ≡ share_of_energy (sum_below params.now.case.n (slice_index phase.now.parts)) sum
-        (phase_up (numbers_of params.now.case) phase.now) }
+        (phase_up params.now.case.n (up (numbers_of params.now.case)) phase.now) }
     ensures small { unsigned_abs result ≤ 2 ^ 107 }
 {
     let up = energy_up(params, &phase_box(&params.case, phase), phase.packing);

@@ -160,6 +160,79 @@ fn adapts_a_writer(rt: HostRuntime) {
     assert_eq!(rt; StdSink::new(Broken).put(b"ab"), Put::Failed);
 }
 
+#[test]
+fn moves_a_byte_at_a_time(rt: HostRuntime) -> Result<(), Fail> {
+    let alloc = rt.alloc();
+    // In memory, both ways.
+    let mut source = text_source(alloc, 1, &[])?;
+    let mut sink = MemSink::new(alloc, TEXT.len(), 1, Vec::new(alloc))?;
+    let read = read_all(alloc, &mut source, 26).ok().ok_or("stopped")?;
+    assert_eq!(rt; read.as_slice(), TEXT);
+    assert_eq!(rt; source.take(&mut [0; 4]), Taken::End);
+    assert_eq!(rt; write_all(&mut sink, &read), Ok(()));
+    assert_eq!(rt; sink.held(), TEXT);
+
+    // By the adapters: each call moves one byte, and each byte is a call.
+    let mut source = StdSource::new(Trickle {
+        left: 3,
+        bytes: Vec::new(alloc),
+    });
+    let mut buf = [0; 4];
+    for _ in 0..3 {
+        assert_eq!(rt; source.take(&mut buf), Taken::Bytes(1));
+    }
+    assert_eq!(rt; source.take(&mut buf), Taken::End);
+    let mut source = StdSource::new(Trickle {
+        left: 26,
+        bytes: Vec::new(alloc),
+    });
+    let read = read_all(alloc, &mut source, 26).ok().ok_or("stopped")?;
+    assert_eq!(rt; read.len(), 26);
+    let mut writer = Trickle {
+        left: 0,
+        bytes: Vec::new(alloc),
+    };
+    let mut sink = StdSink::new(&mut writer);
+    assert_eq!(rt; sink.put(TEXT), Put::Wrote(1));
+    assert_eq!(rt; write_all(&mut sink, &TEXT[1..]), Ok(()));
+    assert_eq!(rt; writer.bytes.as_slice(), TEXT);
+    Ok(())
+}
+
+/// A reader that gives one byte a call until none is left, and a writer that takes one byte a call.
+#[derive(Drop)]
+struct Trickle {
+    left: u8,
+    bytes: Vec<u8>,
+}
+
+impl Read for Trickle {
+    fn read(&mut self, buf: &mut [u8]) -> io::Result<usize> {
+        if self.left == 0 || buf.is_empty() {
+            return Ok(0);
+        }
+        self.left -= 1;
+        buf[0] = b'x';
+        Ok(1)
+    }
+}
+
+impl Write for Trickle {
+    fn write(&mut self, buf: &[u8]) -> io::Result<usize> {
+        if buf.is_empty() {
+            return Ok(0);
+        }
+        match self.bytes.push(buf[0]) {
+            Ok(()) => Ok(1),
+            Err(_) => Err(io::ErrorKind::OutOfMemory.into()),
+        }
+    }
+
+    fn flush(&mut self) -> io::Result<()> {
+        Ok(())
+    }
+}
+
 /// A reader that fails, and a writer that takes its bytes and cannot flush them.
 #[derive(Drop)]
 struct Broken;

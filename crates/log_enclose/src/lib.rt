@@ -13,5 +13,5 @@ mod powers;
 mod tests;
 
 pub use digits::{log2_down, log2_up};
-pub use ends::{log2_hi, log2_iv, log2_lo, log2e};
+pub use ends::{log2_ends, log2_hi, log2_iv, log2_lo, log2e};
 pub use powers::exp2_near;

@@ -2,7 +2,7 @@
 
 use super::*;
 use crate::digits::{log2_down, log2_up};
-use fix_interval::Iv;
+use log_laws::Iv;
 
 #[test]
 fn logarithms(rt: HostRuntime) {
@@ -17,6 +17,8 @@ fn logarithms(rt: HostRuntime) {
         assert!(rt; mantissa < 1 << 62);
         assert_eq!(rt; log2_down(mantissa, 40), lower, "of {mantissa}");
         assert_eq!(rt; log2_up(mantissa, 40), upper, "of {mantissa}");
+        assert_eq!(rt; log2_ends(mantissa, 1 << 61, 61), (lower as i128, 0));
+        assert_eq!(rt; log2_ends(1 << 61, mantissa, 61), (0, upper as i128));
     }
     let one = Iv {
         lo: 1099511627776,

@@ -1,7 +1,7 @@
 -- Sums, least and greatest values, and tests of all numbers below one, as a loop makes them.
-use Rattle.std.proofs.Common.{Bool, true, false, ◌&&◌, IsTrue, ◌≡◌, ℕ, zero, suc, ◌+◌, ◌^◌, ◌<◌, ◌≤◌, ℤ, pos, ◌+ℤ◌, ◌≤ℤ◌, unsigned_abs, refl, arith, add-one, to_z, of_z, inl, inr}
+use Rattle.std.proofs.Common.{Bool, true, false, ◌&&◌, IsTrue, ◌≡◌, ℕ, zero, suc, ◌+◌, ◌^◌, ◌<◌, ◌≤◌, ℤ, pos, ◌+ℤ◌, ◌≤ℤ◌, unsigned_abs, refl, arith, add-one, to_z, of_z, inl, inr, nat_le, List, [], ◌∷◌, slice_index_or}
 use Rattle.std.specs.Int.{w128, int_min, int_max}
-use Rattle.std.proofs.lemmas.Bool.{cases_lt}
+use Rattle.std.proofs.lemmas.Bool.{cases_lt, leb-true, le-leb}
 use Rattle.std.proofs.lemmas.Int.{ints, clamps}
 use Rattle.log_laws.specs.Sums.{sum_below, int_sum_below, least_below, greatest_below, all_below}
 
@@ -135,3 +135,18 @@ all_below-fails (suc n) p i h f =
       | inl less ↦ rw (all_below-fails n p i less f) refl
       | inr more ↦ let e : n ≡ i = omega (arith, h, more) in rw (e, f) (and_false (all_below i p))
     ]
+
+-- four numbers that are each of a size up to a limit are so together
+pub four_small : (limit : ℕ) (f : ℕ → ℤ) (a b c d : ℤ) → a ≡ f 0 → b ≡ f 1 → c ≡ f 2 → d ≡ f 3 → ((i : ℕ) → i < 4 → unsigned_abs (f i) ≤ limit) →
+    IsTrue (all_below 4 (λ i. nat_le (unsigned_abs (slice_index_or (a ∷ b ∷ c ∷ d ∷ []) i (pos 0))) limit))
+four_small limit f a b c d ea eb ec ed h =
+    rw (ea, eb, ec, ed, fits 0 (omega arith), fits 1 (omega arith), fits 2 (omega arith), fits 3 (omega arith)) refl
+  where
+    fits : (i : ℕ) → i < 4 → nat_le (unsigned_abs (f i)) limit ≡ true
+    fits i l = le-leb (unsigned_abs (f i)) limit (h i l)
+
+-- and each is, where they are so together
+pub each_of_four_small : (xs : List ℤ) (limit i : ℕ) → IsTrue (all_below 4 (λ i. nat_le (unsigned_abs (slice_index_or xs i (pos 0))) limit)) → i < 4 →
+    unsigned_abs (slice_index_or xs i (pos 0)) ≤ limit
+each_of_four_small xs limit i h l =
+    leb-true (unsigned_abs (slice_index_or xs i (pos 0))) limit (all_below-at 4 (λ i. nat_le (unsigned_abs (slice_index_or xs i (pos 0))) limit) i l h)

@@ -2,15 +2,25 @@
 
 -- ---- whole numbers: ring laws, floors and ceilings, powers, machine numbers of 128 bits
 pub use Rattle.log_laws.proofs.Ring.{up-mul, down-mul, mul_assoc_ℤ, mul-add_ℤ, add-mul_ℤ, neg-mul, swap_scales, scale_scale, scale_turned, scaled_same}
-pub use Rattle.log_laws.proofs.Ring.{mul-le_ℤ, between, ≤ℤ_trans, add_above, add_below, sub_above, sub_below, corner_low, corner_high, product_low, product_high}
+pub use Rattle.log_laws.proofs.Ring.{mul-le_ℤ, le_of_mul-le_ℤ, between, ≤ℤ_trans, add_above, add_below, sub_above, sub_below, corner_low, corner_high, product_low, product_high}
 pub use Rattle.log_laws.proofs.Ring.{floor_over-le, lt-floor_over, le-ceil_over, ceil_over-pos}
+pub use Rattle.log_laws.proofs.Signs.{no_less, products_up, products_down, factor_up, cancel, scale_less, unscale_less, unscale_same}
+pub use Rattle.log_laws.proofs.Floors.{scaled_quotient, floor_shifted}
+pub use Rattle.log_laws.proofs.Ceilings.{le-ceiling, floor-le-ceiling, ceiling_at_most}
 pub use Rattle.log_laws.proofs.Powers.{pow-mul, pow_pos_of, one-pow, le_of_pow-le}
 pub use Rattle.log_laws.proofs.Wide.{back}
+pub use Rattle.log_laws.proofs.Signed.{natural_fits, natural_value, difference_read, natural_sum_read, opposite_read, product_at_most, product_read, power_read, natural, abs_within, by_natural}
 pub use Rattle.log_laws.proofs.Indexed.{sum_below-add, sum_below-none, sum_below-scaled, sum_below-scaled_same, sum_below-less, le-sum_below}
+-- ---- identities of polynomials, by computing
+pub use Rattle.log_laws.proofs.Polynomials.{Expression, known, unknown, added, times, minus, identity}
 -- ---- sums, least and greatest values, and tests of all, as loops make them
 pub use Rattle.log_laws.proofs.Adding.{sum_below-more, sum_below-fewer, sum-none, sum-more, sum-next, sum-read}
+pub use Rattle.log_laws.proofs.IntSums.{sum-same, sum-neg, sum-added, sum-scaled, sum-nothing, sum-swapped, sum-whole, sum-order, sum_up, summand, times_nothing}
 pub use Rattle.log_laws.proofs.Adding.{least-none, least-more, greatest-none, greatest-more, greatest-next, greatest-first, least-le, le-greatest}
-pub use Rattle.log_laws.proofs.Adding.{and_true, and_false, all_below-at, all_below-from, all_below-less, all_below-more, all_below-same, all_below-fails}
+pub use Rattle.log_laws.proofs.Adding.{and_true, and_false, all_below-at, all_below-from, all_below-less, all_below-more, all_below-same, all_below-fails, four_small, each_of_four_small}
+-- ---- linear forms of fractions that add up to 1
+pub use Rattle.log_laws.proofs.Linear.{greater_end-low, greater_end-high, affine_high-same, affine_low-same, ArePartsBetween, affine_above, affine_below}
+pub use Rattle.log_laws.proofs.Listed.{get_or-list_below}
 -- ---- the value of a fraction as a difference of whole numbers over a third
 pub use Rattle.log_laws.proofs.Parts.{IsParts, product_pos, parts_self, parts_ratio, parts_one, parts_negated, parts_sum, parts_sum_at, parts_product, parts_respelled, parts_of_same}
 pub use Rattle.log_laws.proofs.Parts.{same_of_parts, at_most_of_parts, parts_of_at_most}
@@ -24,7 +34,7 @@ pub use Rattle.log_laws.proofs.Terms.{over_den, lowered, at_least_adds_at, const
 pub use Rattle.log_laws.proofs.Uppers.{at_most_adds, at_most_scales, at_most_raises, heightened, at_most_adds_at, constant_at_most}
 -- ---- single logarithms, their quotients, and the logarithm of e
 pub use Rattle.log_laws.proofs.Arguments.{at_least_takes_larger, at_least_multiplies, at_least_merges}
-pub use Rattle.log_laws.proofs.Terms.{one, quotient_at_least, minus_log, minus_log_quotient, bounds_ordered}
+pub use Rattle.log_laws.proofs.Terms.{fraction_one, quotient_at_least, minus_log, minus_log_quotient, bounds_ordered}
 pub use Rattle.log_laws.proofs.Euler.{log_of_one_more, log_of_one_less}
 pub use Rattle.log_laws.proofs.LogsOfE.{log_of_one_and}
 pub use Rattle.log_laws.proofs.Tangent.{tangent}

@@ -1,5 +1,6 @@
 pub mod Ring
 pub mod Wide
+pub mod Signed
 pub mod Powers
 pub mod Cross
 pub mod Weights
@@ -15,10 +16,17 @@ pub mod Tangent
 pub mod Parts
 pub mod Terms
 pub mod Adding
+pub mod Linear
 pub mod Indexed
 pub mod Arguments
 pub mod LogsOfE
 pub mod Quotients
+pub mod Ceilings
+pub mod Listed
+pub mod Polynomials
+pub mod IntSums
+pub mod Signs
+pub mod Floors
 pub mod Lowest
 pub mod Uppers
 pub mod Exports

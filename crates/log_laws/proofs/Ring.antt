@@ -2,8 +2,8 @@
 use Rattle.std.proofs.Common.{◌≡◌, ℕ, zero, suc, ◌+◌, ◌-◌, ◌*◌, ◌/◌, ◌<◌, ℤ, pos, negsuc, ◌+ℤ◌, ◌-ℤ◌, ◌*ℤ◌, neg_ℤ, ◌≤ℤ◌, ◌<ℤ◌, ◌⊎◌, arith, inl, inr, ap, sym, ◌∙◌}
 use Rattle.std.proofs.lemmas.Int.{ints}
 use Rattle.std.proofs.Math.IntN.{*ℤ_comm}
-use Rattle.std.proofs.Math.Nat.{mul-le-mul_right, div-mul-le_self, lt-div-mul-add, add-mul-div_right, div-eq_of_lt, zero-div}
-use borrow.Author.Differences.{up, down, product_is, sum_is_lem, neg_is, same_in, le_out}
+use Rattle.std.proofs.Math.Nat.{mul-le-mul_right, le_of_mul-le-mul_right, div-mul-le_self, lt-div-mul-add, add-mul-div_right, div-eq_of_lt, zero-div}
+use borrow.Author.Differences.{up, down, product_is, sum_is_lem, neg_is, same_in, le_out, at_most_in}
 use Rattle.log_laws.specs.Whole.{floor_over, ceil_over, ceil_quotient}
 
 pub up-mul : (a b : ℤ) → up (a *ℤ b) ≡ up a * up b + down a * down b
@@ -25,6 +25,12 @@ swap_scales a c q s = same_in ((a *ℤ pos q) *ℤ (c *ℤ pos s)) ((a *ℤ c) *
 -- scaling by a natural number keeps the order
 pub mul-le_ℤ : (a b : ℤ) (n : ℕ) → a ≤ℤ b → (a *ℤ pos n) ≤ℤ (b *ℤ pos n)
 mul-le_ℤ a b n h = omega (arith, ints, mul-le-mul_right n (le_out a b h))
+
+-- a positive factor falls away
+pub le_of_mul-le_ℤ : (a b : ℤ) (n : ℕ) → 0 < n → (a *ℤ pos n) ≤ℤ (b *ℤ pos n) → a ≤ℤ b
+le_of_mul-le_ℤ a b n h l =
+    let q = le_out (a *ℤ pos n) (b *ℤ pos n) l in
+    at_most_in a b (le_of_mul-le-mul_right {k = n} (let x = product_is a (pos n) in let y = product_is b (pos n) in omega (arith, q, x, y)) h)
 
 pub between : (a x b y : ℤ) → a ≤ℤ x → x ≤ℤ b →
     (((a *ℤ y) ≤ℤ (x *ℤ y)) × ((x *ℤ y) ≤ℤ (b *ℤ y))) ⊎ (((b *ℤ y) ≤ℤ (x *ℤ y)) × ((x *ℤ y) ≤ℤ (a *ℤ y)))

@@ -1,9 +1,11 @@
 pub mod Whole
 pub mod Fraction
 pub mod Between
+pub mod Interval
 pub mod Roots
 pub mod LogSum
 pub mod Sums
+pub mod Linear
 pub mod Laws
 pub mod Logarithms
 pub mod Squaring

@@ -1,7 +1,1 @@
-pub mod OnePhase
-pub mod Ended
-pub mod Duality
-pub mod Growing
-pub mod Fairness
-pub mod Rows
-pub mod Answered
+pub mod Certifying

@@ -2,14 +2,17 @@
 
 ghost use Rattle.std.specs.Prelude.{◌≡◌, ◌≤◌, ◌*◌, ◌^◌, pos, ◌≤ℤ◌, IfOk, length};
 ghost use Rattle.case_types.specs.declared.answers.Outcome.TheVariants.{Closed};
-ghost use Rattle.case_types.specs.Divisions.{Certified, division_of};
-ghost use Rattle.case_types.specs.Lawful.{IsLawful};
-ghost use Rattle.case_types.specs.Printed.{enclosures_in};
+ghost use Rattle.case_types.specs.Energy.Divisions.{Certified, division_of};
+ghost use Rattle.case_types.specs.Arithmetic.Numbers.{numbers_of};
+ghost use Rattle.case_types.specs.Energy.Printed.{enclosures_in};
+ghost use Rattle.energy_surface.specs.Lawful.{IsLawful};
+ghost use Rattle.pr_surface.specs.PengRobinson.{surface_of};
 
-use crate::top::flashed;
 use case_types::{Answer, Memory};
 use pr_params::Params;
+use pr_surface::PengRobinson;
 use std::alloc::Global;
+use surface_rounds::flashed;
 
 /// The flash at the temperature and pressure of the case. All memory is taken before the first unit is spent.
 ///
@@ -28,8 +31,8 @@ pub fn flash_tp(alloc: Global, params: &Params, tol: u32, budget: u32) -> Result
     ensures certified { IfOk result (λ a. let p = params.now in
         Certified p.case (enclosures_in p.case.n p.two p.e p.t p.q) (division_of a.split) a.u a.gap) }
     ensures near { IfOk result (λ a. a.outcome ≡ Closed → a.gap ≤ℤ pos (3 * tol * 2 ^ 18)) }
-    ensures lawful { IfOk result (λ a. IsLawful params.now.case tol budget a) }
+    ensures lawful { IfOk result (λ a. IsLawful (surface_of (numbers_of params.now.case)) params.now.case tol budget a) }
     ensures one_phase { IfOk result (λ a. length a.split.phases.items ≡ 1) }
 {
-    flashed(alloc, params, tol, budget)
+    flashed(alloc, &PengRobinson { params }, &params.case, tol, budget)
 }

@@ -1,15 +1,8 @@
-//! The rounds of a flash: columns, pivots, a tangent plane, and the search under it.
-//!
-//! With one component the basis of the linear program is one column, and its tangent plane is one number: the energy of
-//! the column. A search under it clears the whole domain, or finds a column below it, which enters the basis next.
+//! The flash of a Peng-Robinson mixture, and what it promises.
 #![tactic(auto)]
 
-mod answers;
 mod flash;
-mod rounds;
-mod splits;
 #[cfg(test)]
 mod tests;
-mod top;
 
 pub use flash::flash_tp;

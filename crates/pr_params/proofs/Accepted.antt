@@ -1,5 +1,5 @@
 -- What `Params` keeps of a case, and how large the numbers of one component are.
-use Rattle.std.proofs.Common.{◌≡◌, ℕ, zero, suc, ◌*◌, ◌^◌, ◌<◌, ◌≤◌, cond, Bool, true, false, ℤ, pos, negsuc, ◌-ℤ◌, ◌*ℤ◌, ◌≤ℤ◌, refl, ap, arith}
+use Rattle.std.proofs.Common.{◌≡◌, ℕ, zero, suc, ◌*◌, ◌^◌, ◌<◌, ◌≤◌, cond, Bool, true, false, ℤ, pos, negsuc, ◌-ℤ◌, ◌*ℤ◌, ◌≤ℤ◌, refl, sym, ap, arith}
 use Rattle.std.proofs.lemmas.Int.{ints}
 use Rattle.std.proofs.Math.Nat.{zero-div}
 use Rattle.log_laws.specs.Between.{Ends}
@@ -7,27 +7,18 @@ use Rattle.log_laws.specs.Squaring.{down, up}
 use Rattle.log_laws.specs.Roots.{root_digits, with_digit}
 use Rattle.log_laws.specs.Whole.{floor_over, ceil_over, ceil_div}
 use Rattle.log_laws.proofs.Exports.{ceil_over-pos}
-use Rattle.fix_interval.specs.Interval.{ends_of}
 use Rattle.case_types.specs.declared.cases.Case.{Case}
-use Rattle.case_types.specs.CaseWords.{interaction}
-use Rattle.case_types.specs.Numbers.{Numbers, numbers_of, enclosures_of, lift_up_to, fits_lifted, bare_attraction_ends}
+use Rattle.case_types.specs.Energy.Components.{interaction}
+use Rattle.case_types.specs.Arithmetic.Numbers.{Numbers, numbers_of, enclosures_of, lift_up_to, fits_lifted, bare_attraction_ends}
 use Rattle.log_laws.specs.Sums.{all_below}
 use Rattle.pr_params.specs.declared.numbers.Params.{Params}
 use Rattle.pr_params.proofs.Components.{interaction_at_most}
-use Rattle.pr_params.proofs.Sizes.{ceiling_at_most}
+use Rattle.log_laws.proofs.Exports.{ceiling_at_most}
 
 -- ---- what the fields hold
 -- the lift that is kept is that of the numbers
 pub lift_is : (p : Params) → p.lift ≡ (numbers_of p.case).lift
 lift_is p = ap (λ (q : Numbers). q.lift) p.right
-
--- so is the root of 2
-pub two_is : (p : Params) → ends_of p.two ≡ (numbers_of p.case).root_two
-two_is p = ap (λ (q : Numbers). q.root_two) p.right
-
--- so is the logarithm of e
-pub e_is : (p : Params) → ends_of p.e ≡ (numbers_of p.case).log_e
-e_is p = ap (λ (q : Numbers). q.log_e) p.right
 
 -- so is the greatest attraction over a co-volume
 pub rho_is : (p : Params) → p.rho ≡ (numbers_of p.case).rho
@@ -58,6 +49,19 @@ two_exact c = refl
 pub e_exact : (c : Case) → (numbers_of c).log_e ≡ record { lo = pos 1586259924992; hi = pos 1586260020565 }
 unfolding numbers_of enclosures_of down up
 e_exact c = refl
+
+-- the single ends
+pub two_lo_is : (c : Case) → pos 1630477228166597776 ≡ (numbers_of c).root_two.lo
+two_lo_is c = ap (λ (v : Ends). v.lo) (sym (two_exact c))
+
+pub two_hi_is : (c : Case) → pos 1630477228166597777 ≡ (numbers_of c).root_two.hi
+two_hi_is c = ap (λ (v : Ends). v.hi) (sym (two_exact c))
+
+pub e_lo_is : (c : Case) → pos 1586259924992 ≡ (numbers_of c).log_e.lo
+e_lo_is c = ap (λ (v : Ends). v.lo) (sym (e_exact c))
+
+pub e_hi_is : (c : Case) → pos 1586260020565 ≡ (numbers_of c).log_e.hi
+e_hi_is c = ap (λ (v : Ends). v.hi) (sym (e_exact c))
 
 -- ---- how large the co-volume is
 

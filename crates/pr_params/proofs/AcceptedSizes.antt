@@ -8,12 +8,13 @@ use Rattle.std.proofs.Math.Nat.{mul-le-mul_left, mul-le-mul_right, le_of_mul-le-
 use Rattle.log_laws.specs.Between.{Ends}
 use Rattle.log_laws.specs.Sums.{all_below}
 use Rattle.log_laws.specs.Whole.{floor_over, ceil_over}
-use Rattle.log_laws.proofs.Exports.{ceil_over-pos, floor_over-le, le-ceil_over, all_below-at, and_true}
+use Rattle.log_laws.proofs.Exports.{le_of_mul-le_ℤ, ceil_over-pos, floor_over-le, le-ceil_over, all_below-at, and_true, product_pos}
 use Rattle.case_types.specs.declared.cases.Case.{Case}
-use Rattle.case_types.specs.CaseWords.{critical_temperature, critical_pressure}
-use Rattle.case_types.specs.Faults.{fault_of, covolumes_in_range, covolumes_are_near}
-use Rattle.case_types.specs.Numbers.{numbers_of, lift_of, fits_lifted, greatest_ratio, pressure_root_of, enclosures_of, alpha_root_ends, alpha_slope}
-use Rattle.case_types.specs.Tables.{ends_at, ends_of_pair}
+use Rattle.case_types.specs.Energy.Components.{critical_temperature, critical_pressure}
+use Rattle.case_types.specs.Arithmetic.Faults.{fault_of, covolumes_in_range, covolumes_are_near, is_tiny, is_near}
+use Rattle.case_types.specs.Arithmetic.Numbers.{numbers_of, lift_of, fits_lifted, greatest_ratio, pressure_root_of, enclosures_of, alpha_root_ends, alpha_slope}
+use Rattle.case_types.specs.Energy.Parameters.{kappa_scale, covolume_num, covolume_den}
+use Rattle.case_types.specs.Arithmetic.Tables.{ends_at, ends_of_pair}
 use Rattle.pr_params.proofs.Accepted.{floor_positive, ceiling_positive, product_positive, bare_positive, bare_high_positive}
 use Rattle.pr_params.proofs.AllMeans.{AreUsable}
 use Rattle.pr_params.proofs.AtComponents.{covolume_at, attraction_at, bare_attraction_at, alpha_root_at}
@@ -22,7 +23,7 @@ use Rattle.pr_params.proofs.Component.{at_most}
 use Rattle.pr_params.proofs.Components.{component_at, den_positive_at}
 use Rattle.pr_params.proofs.GreatestLift.{lift_greatest, true_of}
 use Rattle.pr_params.proofs.ParametersHold.{alpha_large}
-use Rattle.pr_params.proofs.Sized.{count_of, cancelled}
+use Rattle.pr_params.proofs.Sized.{count_of}
 use Rattle.pr_params.proofs.Sizes.{or_where, ceiling_high}
 
 -- ---- a test that doesn't hold of all fails of one
@@ -60,26 +61,19 @@ not_below x y h =
     ]
 
 -- ---- the co-volumes
--- the numerator and the denominator of the co-volume of a component
-abbrev num_at : Case → ℕ → ℕ
-num_at c i = 389 * c.p * critical_temperature c i
-
-abbrev den_at : Case → ℕ → ℕ
-den_at c i = 5000 * critical_pressure c i * c.t
-
 -- some co-volume is at least 2^-24
 record IsLarge (c : Case) : Type 0 where
   at : ℕ
   below : at < c.n
-  large : den_at c at ≤ num_at c at * 2 ^ 24
+  large : covolume_den c at ≤ covolume_num c at * 2 ^ 24
 
 one_is_large : (c : Case) → fault_of c ≡ None → IsLarge c
 unfolding fault_of
 one_is_large c e =
     let range = true_of (covolumes_in_range c) (or_where _ _ _ e).0 in
-    let none = (and_true (all_below c.n (λ i. nat_le (num_at c i) (32 * den_at c i))) (not (all_below c.n (λ i. nat_lt (num_at c i * 2 ^ 24) (den_at c i)))) range).1 in
-    let one = fails_of_one c.n (λ i. nat_lt (num_at c i * 2 ^ 24) (den_at c i)) (opposite (all_below c.n (λ i. nat_lt (num_at c i * 2 ^ 24) (den_at c i))) none) in
-    record { at = one.at; below = one.below; large = not_below (num_at c one.at * 2 ^ 24) (den_at c one.at) one.fails }
+    let none = (and_true (all_below c.n (fits_lifted c 0)) (not (all_below c.n (is_tiny c))) range).1 in
+    let one = fails_of_one c.n (is_tiny c) (opposite (all_below c.n (is_tiny c)) none) in
+    record { at = one.at; below = one.below; large = not_below (covolume_num c one.at * 2 ^ 24) (covolume_den c one.at) one.fails }
   where
     opposite : (b : Bool) → IsTrue (not b) → IsFalse b
     opposite true h = absurd (cc h)
@@ -89,7 +83,7 @@ one_is_large c e =
 record IsRaised (c : Case) : Type 0 where
   at : ℕ
   below : at < c.n
-  raised : 16 * den_at c at ≤ num_at c at * 2 ^ lift_of c
+  raised : 16 * covolume_den c at ≤ covolume_num c at * 2 ^ lift_of c
 
 one_is_raised : (c : Case) → fault_of c ≡ None → IsRaised c
 one_is_raised c e =
@@ -97,9 +91,9 @@ one_is_raised c e =
     elim (cases_lt (lift_of c) 29) [
       | inl less ↦
           let more = lift_of c + 1 in
-          let one = fails_of_one c.n (λ i. fits_lifted c more i) (g.greatest more (omega arith) (omega (arith, less))) in
-          let over = above (num_at c one.at * 2 ^ more) (32 * den_at c one.at) one.fails in
-          let twice = ap (λ (x : ℕ). num_at c one.at * x) (pow-add 2 (lift_of c) 1) in
+          let one = fails_of_one c.n (fits_lifted c more) (g.greatest more (omega arith) (omega (arith, less))) in
+          let over = above (covolume_num c one.at * 2 ^ more) (32 * covolume_den c one.at) one.fails in
+          let twice = ap (λ (x : ℕ). covolume_num c one.at * x) (pow-add 2 (lift_of c) 1) in
           record { at = one.at; below = one.below; raised = omega (arith, over, twice) }
       | inr more ↦
           let large = one_is_large c e in
@@ -115,24 +109,28 @@ near_at : (c : Case) (i j : ℕ) → fault_of c ≡ None → i < c.n → j < c.n
 unfolding fault_of
 near_at c i j e h k =
     let near = true_of (covolumes_are_near c) (or_where _ _ _ (or_else_none _ _ e).1).0 in
-    let row = all_below-at c.n (λ i. all_below c.n (λ j. nat_le (critical_temperature c j * critical_pressure c i) (critical_temperature c i * critical_pressure c j * 1024))) i h near in
+    let row = all_below-at c.n (λ i. all_below c.n (is_near c i)) i h near in
     at_most (critical_temperature c j * critical_pressure c i) (critical_temperature c i * critical_pressure c j * 1024)
-    (all_below-at c.n (λ j. nat_le (critical_temperature c j * critical_pressure c i) (critical_temperature c i * critical_pressure c j * 1024)) j k row)
+    (all_below-at c.n (is_near c i) j k row)
 
-raised_order : (p t l ti pi tj pj : ℕ) → 0 < pj → 16 * (5000 * pj * t) ≤ 389 * p * tj * l → tj * pi ≤ ti * pj * 1024 → 5000 * pi * t ≤ 389 * p * ti * l * 64
-raised_order p t l ti pi tj pj some h k =
-    let a = mul-le-mul_right pi h in
-    let b = mul-le-mul_left (389 * p * l) k in
-    let all : 5000 * pi * t * (16 * pj) ≤ 389 * p * ti * l * 64 * (16 * pj) = omega (arith, a, b) in
-    le_of_mul-le-mul_right all (omega (arith, some))
+raised_order : (n d m e ti pi tj pj l : ℕ) → 0 < ti → 0 < pj → m * ti ≡ n * tj → d * pj ≡ e * pi → 16 * e ≤ m * l → tj * pi ≤ ti * pj * 1024 → d ≤ n * l * 64
+raised_order n d m e ti pi tj pj l some some_pressure nums dens h k =
+    let a = mul-le-mul_right (pi * ti) h in
+    let b = mul-le-mul_left (n * l) k in
+    let num = ap (λ x. x * (l * pi)) nums in
+    let den = ap (λ x. x * ti) dens in
+    let all : d * (16 * (pj * ti)) ≤ n * l * 64 * (16 * (pj * ti)) = omega (arith, a, b, num, den) in
+    le_of_mul-le-mul_right all (let positive = product_pos pj ti some_pressure some in omega (arith, positive))
 
 -- raised, each co-volume is at least 1/64
-raised_at : (c : Case) (i : ℕ) → fault_of c ≡ None → i < c.n → den_at c i ≤ num_at c i * 2 ^ lift_of c * 64
+raised_at : (c : Case) (i : ℕ) → fault_of c ≡ None → i < c.n → covolume_den c i ≤ covolume_num c i * 2 ^ lift_of c * 64
 raised_at c i e h =
     let one = one_is_raised c e in
-    let some = (component_at c one.at one.below).pc_low in
-    raised_order c.p c.t (2 ^ lift_of c) (critical_temperature c i) (critical_pressure c i) (critical_temperature c one.at) (critical_pressure c one.at)
-    (omega (arith, some)) one.raised (near_at c i one.at e h one.below)
+    let own = component_at c i h in
+    let other = component_at c one.at one.below in
+    raised_order (covolume_num c i) (covolume_den c i) (covolume_num c one.at) (covolume_den c one.at)
+    (critical_temperature c i) (critical_pressure c i) (critical_temperature c one.at) (critical_pressure c one.at) (2 ^ lift_of c)
+    (omega (arith, own.tc_low)) (omega (arith, other.pc_low)) (omega arith) (omega arith) one.raised (near_at c i one.at e h one.below)
 
 -- the lower end of a co-volume is at least 2^50, the upper at most 2^61
 raised_floor : (num den lift : ℕ) → 0 < den → den ≤ num * 2 ^ lift * 64 → 2 ^ 50 ≤ num * 2 ^ (56 + lift) / den
@@ -142,15 +140,15 @@ raised_floor num den lift some h =
 
 pub covolume_least : (c : Case) (i : ℕ) → fault_of c ≡ None → i < c.n → pos (2 ^ 50) ≤ℤ (ends_at (numbers_of c).covolumes i).lo
 covolume_least c i e h =
-    let low = raised_floor (num_at c i) (den_at c i) (lift_of c) (den_positive_at c i h) (raised_at c i e h) in
+    let low = raised_floor (covolume_num c i) (covolume_den c i) (lift_of c) (den_positive_at c i h) (raised_at c i e h) in
     rw (covolume_at c i h) (omega (arith, ints, low))
 
 pub covolume_most : (c : Case) (i : ℕ) → fault_of c ≡ None → i < c.n → (ends_at (numbers_of c).covolumes i).hi ≤ℤ pos (2 ^ 61)
 covolume_most c i e h =
     let g = lift_greatest c e in
-    let fits = at_most (num_at c i * 2 ^ lift_of c) (32 * den_at c i) (all_below-at c.n (λ i. fits_lifted c (lift_of c) i) i h g.fits) in
-    let high = ceiling_high (num_at c i) (den_at c i) (lift_of c) (den_positive_at c i h) fits in
-    rw (covolume_at c i h, ceil_over-pos (num_at c i * 2 ^ (56 + lift_of c)) (den_at c i) (den_positive_at c i h)) (omega (arith, ints, high))
+    let fits = at_most (covolume_num c i * 2 ^ lift_of c) (32 * covolume_den c i) (all_below-at c.n (λ i. fits_lifted c (lift_of c) i) i h g.fits) in
+    let high = ceiling_high (covolume_num c i) (covolume_den c i) (lift_of c) (den_positive_at c i h) fits in
+    rw (covolume_at c i h, ceil_over-pos (covolume_num c i * 2 ^ (56 + lift_of c)) (covolume_den c i) (den_positive_at c i h)) (omega (arith, ints, high))
 
 -- ---- the attractions
 -- no attraction is negative
@@ -169,9 +167,9 @@ pub alpha_ordered : (c : Case) (t : Ends) (i : ℕ) → (alpha_root_ends c t i).
 alpha_ordered c t i =
     let a = alpha_slope c i t.lo in
     let b = alpha_slope c i t.hi in
-    let low = floor_over-le (int_min a b) (10 ^ 13) (lit< tt) in
-    let high = le-ceil_over (int_max a b) (10 ^ 13) (lit< tt) in
-    let order = cancelled (floor_over (int_min a b) (10 ^ 13)) (ceil_over (int_max a b) (10 ^ 13)) (10 ^ 13) (lit< tt) (joined a b _ _ low high) in
+    let low = floor_over-le (int_min a b) kappa_scale (lit< tt) in
+    let high = le-ceil_over (int_max a b) kappa_scale (lit< tt) in
+    let order = le_of_mul-le_ℤ (floor_over (int_min a b) kappa_scale) (ceil_over (int_max a b) kappa_scale) kappa_scale (lit< tt) (joined a b _ _ low high) in
     omega (arith, ints, order)
   where
     joined : (a b x y : ℤ) → x ≤ℤ int_min a b → int_max a b ≤ℤ y → x ≤ℤ y

@@ -9,15 +9,15 @@ use Rattle.log_laws.specs.Fraction.{Fraction, IsAtMost, quotient_of}
 use Rattle.log_laws.specs.LogSum.{ratio}
 use Rattle.log_laws.specs.Sums.{sum_below, least_below, greatest_below}
 use Rattle.log_laws.specs.Whole.{positive_part, floor_div, ceil_div, ceil_quotient}
-use Rattle.log_laws.proofs.Exports.{product_pos, scale_scale, le-ceil_over, mul-le_ℤ, ≤ℤ_trans, sum_below-scaled, le-greatest}
-use Rattle.case_types.specs.Bounds.{Box, one, covolume_range, attraction_low, attraction_high, ratio_low, ratio_high}
-use Rattle.case_types.specs.Divisions.{bits}
-use Rattle.case_types.specs.Numbers.{Numbers, greatest_ratio}
-use Rattle.case_types.specs.Tables.{ends_at, ends_of_pair}
+use Rattle.log_laws.proofs.Exports.{le_of_mul-le_ℤ, product_pos, scale_scale, le-ceil_over, mul-le_ℤ, ≤ℤ_trans, sum_below-scaled, le-greatest}
+use Rattle.case_types.specs.Arithmetic.Bounds.{Box, one, covolume_range, attraction_low, attraction_high, ratio_low, ratio_high}
+use Rattle.case_types.specs.Energy.Divisions.{bits}
+use Rattle.case_types.specs.Arithmetic.Numbers.{Numbers, greatest_ratio}
+use Rattle.case_types.specs.Arithmetic.Tables.{ends_at, ends_of_pair}
 use Rattle.pr_params.proofs.Attracted.{by_among, among_of_between}
 use Rattle.pr_params.proofs.Mean.{ratio_high_is, ratio_low_is}
 use Rattle.pr_params.proofs.RatioEnds.{quotient_above, quotient_below}
-use Rattle.pr_params.proofs.Sized.{ends_ordered, cancelled}
+use Rattle.pr_params.proofs.Sized.{ends_ordered}
 use Rattle.pr_params.proofs.Spread.{of_lesser, above_all}
 use Rattle.pr_params.proofs.Weighted.{IsOver, IsUnder, mean_by, mean_over, mean_under, under_greater}
 use Rattle.pr_params.proofs.CovolumeRange.{natural_is, over_end, under_end, high_of, AreInBox, range_holds, HasLeastParts}
@@ -324,7 +324,7 @@ least_attraction_below n q x range u most order least =
     subst (λ (k : ℕ). pos (sum_below n (λ j. least.parts j * z j)) ≤ℤ (w *ℤ pos k)) (sym least.all)
     (above_all n least.parts z w
     (λ j g. let m = most i j h g in let e = natural_is (ends_of_pair q.attractions i j).lo (u.attractions i j h g) in omega (arith, ints, m, e, o))) in
-    let all = cancelled (row i) w one (lit< tt) (≤ℤ_trans _ _ _ below above) in
+    let all = le_of_mul-le_ℤ (row i) w one (lit< tt) (≤ℤ_trans _ _ _ below above) in
     let e = natural_is w (omega (arith, ints, o, c)) in
     omega (arith, ints, all, e)) in
     let z : ℕ → ℕ = λ i. positive_part (row i) in
@@ -334,7 +334,7 @@ least_attraction_below n q x range u most order least =
     sums_below n (λ i. least.parts i * z i) (λ i. least.parts i * positive_part (ends_at q.covolumes i).hi)
     (λ i h. mul-le-mul_left (least.parts i) (let m = row_most i h in let e = natural i h in omega (arith, ints, m, e))) in
     let under = least.under in
-    cancelled (low_by n q x) range.hi one (lit< tt) (≤ℤ_trans _ _ _ below (≤ℤ_trans _ _ _ (omega (arith, ints, less)) under))
+    le_of_mul-le_ℤ (low_by n q x) range.hi one (lit< tt) (≤ℤ_trans _ _ _ below (≤ℤ_trans _ _ _ (omega (arith, ints, less)) under))
   where
     sums_below : (n : ℕ) (f g : ℕ → ℕ) → ((i : ℕ) → i < n → f i ≤ g i) → sum_below n f ≤ sum_below n g
     sums_below n f g h = let e = sum_below-scaled n f g 1 1 (λ i k. let l = h i k in omega (arith, l)) in omega (arith, e)

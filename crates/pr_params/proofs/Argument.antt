@@ -5,8 +5,8 @@ use borrow.Author.Differences.{up, le_out, lt_out, product_is}
 use Rattle.log_laws.specs.Between.{IsBetween}
 use Rattle.log_laws.specs.Fraction.{Fraction, sum_of, difference, product_of}
 use Rattle.log_laws.specs.LogSum.{ratio, IsPositive}
-use Rattle.log_laws.proofs.Exports.{IsParts, parts_one, parts_ratio, parts_sum, parts_product, parts_negated, parts_respelled, product_pos, one, parts_quotient, quotient_of_parts, by_ratio, order_of_ratios}
-use Rattle.case_types.specs.Divisions.{attraction_argument}
+use Rattle.log_laws.proofs.Exports.{IsParts, parts_one, parts_ratio, parts_sum, parts_product, parts_negated, parts_respelled, product_pos, fraction_one, parts_quotient, quotient_of_parts, by_ratio, order_of_ratios}
+use Rattle.case_types.specs.Energy.Divisions.{State, IsState, attraction_argument}
 use Rattle.pr_params.specs.Packings.{IsPacking}
 
 -- ---- positive fractions
@@ -22,6 +22,18 @@ positive_between l scale hi f h b = (b.is_fraction, up_positive f.num scale (l *
 -- so is a packing
 pub packing_positive : (y : Fraction) → IsPacking y → IsPositive y
 packing_positive y p = (p.is_fraction, (let l = lt_out (pos 0) y.num p.not_empty in omega (arith, l)))
+
+-- ---- packings
+-- the packing of a state
+pub state_packing : (n : ℕ) (f : State) → IsState n f → IsPacking f.packing
+state_packing n f s = record { is_fraction = s.is_fraction; not_empty = s.not_empty; not_full = s.not_full }
+
+-- what the packing yn / yd leaves of 1
+pub rest_parts : (un yn yd : ℕ) → 0 < yd → un + yn ≡ yd → IsParts (difference fraction_one (ratio yn yd)) un 0 yd
+rest_parts un yn yd pyd is = parts_respelled (parts_sum parts_one (parts_negated (parts_ratio yn yd pyd))) pyd (exact un yn yd is)
+  where
+    exact : (u n d : ℕ) → u + n ≡ d → (1 * d + 0 * 1) * d + 0 * (1 * d) ≡ u * (1 * d) + (0 * d + n * 1) * d
+    exact u n d e = let e' : (u + n) * d ≡ d * d = ap (λ (x : ℕ). x * d) e in omega arith
 
 -- ---- the root sn/sd between its ends, and the packing yn/yd
 pub record IsRoot (sn sd sl sh : ℕ) : Type 0 where
@@ -64,16 +76,16 @@ by_quotients P s y sl sh some narrow between packing k =
 
 -- ---- the argument
 module _ (sn sd yn yd Rd : ℕ) (psd : 0 < sd) (pyd : 0 < yd) (pRd : 0 < Rd) (Rd_is : Rd + sn * yn ≡ yd * sd + yn * sd) where
-  one_more : IsParts (sum_of one (ratio yn yd)) (yd + yn) 0 yd
+  one_more : IsParts (sum_of fraction_one (ratio yn yd)) (yd + yn) 0 yd
   one_more = parts_respelled (parts_sum parts_one (parts_ratio yn yd pyd)) pyd (omega arith)
 
   share : IsParts (product_of (ratio sn sd) (ratio yn yd)) (sn * yn) 0 (yd * sd)
   share = parts_respelled (parts_product (parts_ratio sn sd psd) (parts_ratio yn yd pyd)) (product_pos yd sd pyd psd) (omega arith)
 
-  over_parts : IsParts (sum_of (sum_of one (ratio yn yd)) (product_of (ratio sn sd) (ratio yn yd))) (yd * sd + yn * sd + sn * yn) 0 (yd * sd)
+  over_parts : IsParts (sum_of (sum_of fraction_one (ratio yn yd)) (product_of (ratio sn sd) (ratio yn yd))) (yd * sd + yn * sd + sn * yn) 0 (yd * sd)
   over_parts = parts_respelled (parts_sum one_more share) (product_pos yd sd pyd psd) (omega arith)
 
-  under_parts : IsParts (difference (sum_of one (ratio yn yd)) (product_of (ratio sn sd) (ratio yn yd))) Rd 0 (yd * sd)
+  under_parts : IsParts (difference (sum_of fraction_one (ratio yn yd)) (product_of (ratio sn sd) (ratio yn yd))) Rd 0 (yd * sd)
   under_parts = parts_respelled (parts_sum one_more (parts_negated share)) (product_pos yd sd pyd psd) (exact (sn * yn) yd sd yn Rd Rd_is)
     where
       exact : (v yd sd yn Rd : ℕ) → Rd + v ≡ yd * sd + yn * sd →

@@ -2,10 +2,10 @@
 use Rattle.std.proofs.Common.{◌≡◌, ℕ, ◌<◌, List, [], refl, ◌∙◌, ap}
 use Rattle.log_laws.specs.Between.{Ends}
 use Rattle.case_types.specs.declared.cases.Case.{Case}
-use Rattle.case_types.specs.Numbers.{numbers_of, enclosures_of, lift_of, covolume_ends, alpha_root_ends, bare_attraction_ends, attraction_ends, pressure_root_of, table_below}
+use Rattle.case_types.specs.Arithmetic.Numbers.{numbers_of, enclosures_of, lift_of, covolume_ends, alpha_root_ends, bare_attraction_ends, attraction_ends, pressure_root_of, table_below}
 use Rattle.log_laws.specs.Sums.{list_below}
-use Rattle.case_types.specs.Tables.{ends_at, ends_of_pair, no_ends}
-use Rattle.pr_params.proofs.Below.{get_or-list_below}
+use Rattle.case_types.specs.Arithmetic.Tables.{ends_at, ends_of_pair, no_ends}
+use Rattle.log_laws.proofs.Exports.{get_or-list_below}
 
 -- an entry of a table
 table_at : (n : ℕ) (f : ℕ → ℕ → Ends) (i j : ℕ) → i < n → j < n → ends_of_pair (table_below n f) i j ≡ f i j

@@ -7,13 +7,8 @@ use Rattle.log_laws.specs.Between.{Ends, IsBetween}
 use Rattle.log_laws.specs.Fraction.{Fraction, product_of, quotient_of}
 use Rattle.log_laws.specs.LogSum.{ratio}
 use Rattle.log_laws.specs.Whole.{floor_div, ceil_div, ceil_quotient}
-use Rattle.log_laws.proofs.Exports.{product_pos}
-use Rattle.log_laws.proofs.Exports.{le-ceil_over, ceil_over-pos}
-use Rattle.case_types.specs.Numbers.{attraction_ends}
-
--- the ceiling of a quotient is no less
-pub le-ceiling : (n d : ℕ) → 0 < d → n ≤ ceil_quotient n d * d
-le-ceiling n d h = let p = rw (ceil_over-pos n d h) at (le-ceil_over (pos n) d h) in omega (arith, ints, p)
+use Rattle.log_laws.proofs.Exports.{product_pos, ceil_over-pos, le-ceiling}
+use Rattle.case_types.specs.Arithmetic.Numbers.{attraction_ends}
 
 -- ---- between natural ends
 -- the fraction u / d is at least 0 and lies between a / scale and b / scale

@@ -6,10 +6,9 @@ use Rattle.std.proofs.Math.Nat.{mul-le-mul_right}
 use Rattle.log_laws.specs.Fraction.{Fraction}
 use Rattle.log_laws.specs.Sums.{sum_below, int_sum_below}
 use Rattle.log_laws.specs.Whole.{positive_part, floor_div, ceil_div}
-use Rattle.log_laws.proofs.Exports.{mul-le_ℤ, add-mul_ℤ, floor_over-le, le-ceil_over, scale_scale, scale_turned, product_pos, ≤ℤ_trans}
-use Rattle.case_types.specs.Bounds.{one}
+use Rattle.log_laws.proofs.Exports.{le_of_mul-le_ℤ, mul-le_ℤ, add-mul_ℤ, floor_over-le, le-ceil_over, scale_scale, scale_turned, product_pos, ≤ℤ_trans}
+use Rattle.case_types.specs.Arithmetic.Bounds.{one}
 use Rattle.pr_params.proofs.Accepted.{floor_positive}
-use Rattle.pr_params.proofs.Sized.{cancelled}
 use Rattle.pr_params.proofs.Weighted.{IsOver, IsUnder, mean_by, mean_over, mean_under, over_less, under_greater}
 use Rattle.pr_params.proofs.CovolumeRange.{natural_is}
 
@@ -59,7 +58,7 @@ shared_below n p x z l m h e =
     let q = mul-le_ℤ (w *ℤ pos one) terms m (floor_over-le terms one (lit< tt)) in
     let all = ≤ℤ_trans _ _ _ q (terms_below n p x z l m h e) in
     let k : ((w *ℤ pos m) *ℤ pos one) ≤ℤ (pos sum *ℤ pos one) = rw (scale_turned w one m) (rw (scale_scale w one m) at all) in
-    cancelled (w *ℤ pos m) (pos sum) one (lit< tt) k
+    le_of_mul-le_ℤ (w *ℤ pos m) (pos sum) one (lit< tt) k
 
 pub shared_above : (n : ℕ) (p x : ℕ → ℕ) (z : ℕ → ℤ) (l : ℕ → ℕ) (m : ℕ) → ((i : ℕ) → i < n → p i * one ≤ x i * m) → AreNatural n z l
     → pos (sum_below n (λ i. p i * l i)) ≤ℤ (shared_up n x z *ℤ pos m)
@@ -70,7 +69,7 @@ shared_above n p x z l m h e =
     let q = mul-le_ℤ terms (w *ℤ pos one) m (le-ceil_over terms one (lit< tt)) in
     let all = ≤ℤ_trans _ _ _ (terms_above n p x z l m h e) q in
     let k : (pos sum *ℤ pos one) ≤ℤ ((w *ℤ pos m) *ℤ pos one) = rw (scale_turned w one m) (rw (scale_scale w one m) at all) in
-    cancelled (pos sum) (w *ℤ pos m) one (lit< tt) k
+    le_of_mul-le_ℤ (pos sum) (w *ℤ pos m) one (lit< tt) k
 
 -- ---- they aren't negative
 pub shared_down_positive : (n : ℕ) (x : ℕ → ℕ) (z : ℕ → ℤ) (l : ℕ → ℕ) → AreNatural n z l → pos 0 ≤ℤ shared_down n x z

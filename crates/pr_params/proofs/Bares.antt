@@ -7,27 +7,27 @@ use Rattle.std.proofs.lemmas.Nat.{pow-add}
 use Rattle.log_laws.specs.Between.{Ends}
 use Rattle.log_laws.specs.Whole.{ceil_quotient}
 use Rattle.log_laws.proofs.Exports.{ceil_over-pos}
-use Rattle.fix_interval.specs.Interval.{ends}
+use Rattle.log_laws.specs.Interval.{ends}
 use Rattle.case_types.specs.declared.cases.Case.{Case}
-use Rattle.case_types.specs.CaseWords.{critical_temperature, critical_pressure}
-use Rattle.case_types.specs.Faults.{covolumes_in_range}
-use Rattle.case_types.specs.Numbers.{lift_of}
-use Rattle.case_types.specs.Parameters.{cohesion_num, cohesion_den}
+use Rattle.case_types.specs.Energy.Components.{critical_temperature, critical_pressure}
+use Rattle.case_types.specs.Arithmetic.Faults.{covolumes_in_range}
+use Rattle.case_types.specs.Arithmetic.Numbers.{lift_of}
+use Rattle.case_types.specs.Energy.Parameters.{covolume_num, covolume_den, cohesion_num, cohesion_den}
 use Rattle.pr_params.specs.Entries.{pressure_entry, bare_entry}
 use Rattle.pr_params.proofs.Components.{component_at, interaction_turned}
-use Rattle.pr_params.proofs.CommonLift.{fits_at}
+use Rattle.pr_params.proofs.GreatestLift.{fits_at}
 use Rattle.pr_params.proofs.Pressures.{pressure_sizes, pressure_turned}
 
 square : (t : ℕ) → t ^ 2 ≡ t * t
 square t = pow-suc t 1 ∙ ap (λ x. x * t) (pow-suc t 0 ∙ ap (λ x. x * t) (pow-zero t) ∙ one-mul t)
 
 -- the attraction without alpha is at most 2 ^ 14, by the lesser critical pressure
-fits_over : (k p tc other pc t lift : ℕ) → k ≤ 15000 → other ≤ 30 * t → 389 * p * tc * 2 ^ lift ≤ 32 * (5000 * pc * t) →
-    k * (11431 * p * tc * other) * 2 ^ (79 + lift) ≤ 2 ^ 61 * (250000000 * t ^ 2 * (pc * 2 ^ 32))
-fits_over k p tc other pc t lift few hot h = rw (pow-add 2 79 lift, square t) (
-    let a = mul-le-mul_left (p * tc * 2 ^ lift) hot in
-    let b = mul-le-mul_right t h in
-    let d = mul-le-mul_right (p * tc * other * 2 ^ lift) few in
+fits_over : (c : Case) (i j k lift : ℕ) → k ≤ 15000 → critical_temperature c j ≤ 30 * c.t → covolume_num c i * 2 ^ lift ≤ 32 * covolume_den c i →
+    k * (11431 * c.p * critical_temperature c i * critical_temperature c j) * 2 ^ (79 + lift) ≤ 2 ^ 61 * (cohesion_den c * (critical_pressure c i * 2 ^ 32))
+fits_over c i j k lift few hot h = rw (pow-add 2 79 lift, square c.t) (
+    let a = mul-le-mul_left (c.p * critical_temperature c i * 2 ^ lift) hot in
+    let b = mul-le-mul_right c.t h in
+    let d = mul-le-mul_right (c.p * critical_temperature c i * critical_temperature c j * 2 ^ lift) few in
     omega (arith, a, b, d))
 
 -- of components of which the first has the lesser critical pressure
@@ -39,7 +39,7 @@ fits_where c i j k q r h g less few e =
     let low : critical_pressure c i * 2 ^ 32 ≤ q = omega (arith, ints, e, s.low) in
     let b = component_at c j g in
     let t_low = c.t_low in
-    let fits = fits_over k c.p (critical_temperature c i) (critical_temperature c j) (critical_pressure c i) c.t (lift_of c) few (omega (arith, b.tc_high, t_low)) (fits_at c i r h) in
+    let fits = fits_over c i j k (lift_of c) few (omega (arith, b.tc_high, t_low)) (fits_at c i r h) in
     let more = mul-le-mul_left (cohesion_den c) low in
     omega (arith, fits, more)
 

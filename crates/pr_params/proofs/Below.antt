@@ -1,30 +1,9 @@
--- What a test, a list and a search over the numbers below n say of one of them.
-use Rattle.std.proofs.Common.{◌≡◌, ℕ, zero, suc, ◌+◌, ◌<◌, [], ◌∷◌, length, get_or, Option, None, Some, refl, ◌∙◌, ap, arith, inl, inr, length-append, add-one, ℤ, pos, max}
+-- What a test and a search over the numbers below n say of one of them.
+use Rattle.std.proofs.Common.{◌≡◌, ℕ, zero, suc, ◌+◌, ◌<◌, Option, None, Some, refl, arith, inl, inr, add-one, ℤ, pos, max}
 use Rattle.std.proofs.lemmas.Int.{ints, clamps}
 use Rattle.std.proofs.lemmas.Bool.{cases_lt}
-use Rattle.std.proofs.lemmas.List.{get_or_append_left}
-use Rattle.std.proofs.Math.Seq.{get_or-append_seam}
-use Rattle.case_types.specs.Faults.{or_else, first_below}
-use Rattle.log_laws.specs.Sums.{list_below, greatest_below}
-
--- a list over the numbers below n has n items
-length-list_below : {X : Type 0} → (n : ℕ) (f : ℕ → X) → length (list_below n f) ≡ n
-unfolding list_below
-length-list_below zero f = refl
-length-list_below (suc n) f = length-append (list_below n f) (f n ∷ []) ∙ (rw (length-list_below n f) (omega arith))
-
--- and its items are those of the function
-pub get_or-list_below : {X : Type 0} → (n : ℕ) (f : ℕ → X) (d : X) (i : ℕ) → i < n → get_or (list_below n f) i d ≡ f i
-unfolding list_below
-get_or-list_below zero f d i h = absurd (omega (arith, h))
-get_or-list_below (suc n) f d i h =
-    let l = length-list_below n f in
-    elim (cases_lt i n) [
-      | inl less ↦ get_or_append_left (list_below n f) (f n ∷ []) d i (omega (arith, less, l)) ∙ get_or-list_below n f d i less
-      | inr more ↦ let e : i ≡ length (list_below n f) = omega (arith, h, more, l) in
-          let e' : n ≡ i = omega (arith, h, more) in
-          rw e (get_or-append_seam (list_below n f) (f n) [] d) ∙ ap f e'
-    ]
+use Rattle.case_types.specs.Arithmetic.Faults.{or_else, first_below}
+use Rattle.log_laws.specs.Sums.{greatest_below}
 
 -- where nothing is found, neither of two searches finds anything
 pub or_else_none : {X : Type 0} → (a b : Option X) → or_else a b ≡ None → (a ≡ None) × (b ≡ None)

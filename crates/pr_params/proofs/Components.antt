@@ -1,11 +1,12 @@
 -- The ranges of each component of a case, and of each pair.
-use Rattle.std.proofs.Common.{◌≡◌, ℕ, ◌*◌, ◌<◌, ◌≤◌, Bool, ℤ, pos, neg_ℤ, ◌≤ℤ◌, ◌&&◌, to_z, of_z, arith}
+use Rattle.std.proofs.Common.{◌≡◌, ℕ, ◌<◌, ◌≤◌, Bool, ℤ, pos, neg_ℤ, ◌≤ℤ◌, ◌&&◌, to_z, of_z, arith}
 use Rattle.std.specs.Int.{w32}
 use Rattle.std.proofs.lemmas.Int.{ints}
 use Rattle.std.specs.Prelude.{int_le, nat_le, slice_index}
 use Rattle.std.proofs.Math.Nat.{mul-le-mul}
 use Rattle.case_types.specs.declared.cases.Case.{Case}
-use Rattle.case_types.specs.CaseWords.{critical_temperature, critical_pressure, acentric_factor, interaction, feed}
+use Rattle.case_types.specs.Energy.Components.{critical_temperature, critical_pressure, acentric_factor, interaction, feed}
+use Rattle.case_types.specs.Energy.Parameters.{covolume_den}
 use Rattle.case_types.specs.Ranges.{entry, is_interaction, is_critical_temperature, is_critical_pressure, is_acentric_factor}
 use Rattle.log_laws.specs.Sums.{all_below}
 use Rattle.log_laws.proofs.Exports.{le-sum_below, all_below-at, and_true}
@@ -70,7 +71,7 @@ interaction_turned c i j h g =
     both a b l m = omega (arith, ints, l, m)
 
 -- the denominator of its co-volume is positive
-pub den_positive_at : (c : Case) (i : ℕ) → i < c.n → 0 < 5000 * critical_pressure c i * c.t
+pub den_positive_at : (c : Case) (i : ℕ) → i < c.n → 0 < covolume_den c i
 den_positive_at c i h =
     let k = component_at c i h in
     let p = mul-le-mul k.pc_low c.t_low in

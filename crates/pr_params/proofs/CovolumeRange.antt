@@ -1,5 +1,5 @@
 -- The range of the mean co-volume over a box holds the mean of every composition in it, for any number of components.
-use Rattle.std.proofs.Common.{◌≡◌, ℕ, zero, suc, ◌+◌, ◌-◌, ◌*◌, ◌<◌, ◌≤◌, ap, sym, subst, arith, ℤ, pos, negsuc, ◌+ℤ◌, ◌-ℤ◌, ◌*ℤ◌, ◌≤ℤ◌, List, refl, lit<, slice_index, cond, nat_lt, inl, inr}
+use Rattle.std.proofs.Common.{◌≡◌, ℕ, zero, suc, ◌+◌, ◌-◌, ◌*◌, ◌<◌, ◌≤◌, sym, subst, arith, ℤ, pos, negsuc, ◌-ℤ◌, ◌*ℤ◌, ◌≤ℤ◌, List, refl, lit<, slice_index, cond, nat_lt, inl, inr}
 use Rattle.std.specs.Int.{int_min, int_max}
 use Rattle.std.proofs.lemmas.Bool.{cases_lt, lt-ltb, le-ltb}
 use Rattle.std.proofs.lemmas.Int.{ints}
@@ -7,14 +7,15 @@ use Rattle.std.proofs.Math.Nat.{mul-le-mul_right}
 use Rattle.log_laws.specs.Between.{Ends, IsBetween}
 use Rattle.log_laws.specs.Fraction.{Fraction, whole}
 use Rattle.log_laws.specs.Sums.{sum_below, int_sum_below, least_below, greatest_below}
-use Rattle.log_laws.specs.Whole.{positive_part, floor_div, ceil_div}
-use Rattle.log_laws.proofs.Exports.{mul-le_ℤ, add-mul_ℤ, floor_over-le, le-ceil_over, scale_scale, scale_turned, ≤ℤ_trans, sum_below-scaled_same, least-le, le-greatest}
-use Rattle.case_types.specs.Bounds.{Box, one, covolume_range, low_fraction, high_fraction}
-use Rattle.case_types.specs.Numbers.{Numbers}
-use Rattle.case_types.specs.Tables.{ends_at}
-use Rattle.pr_params.proofs.Sized.{cancelled, ends_ordered}
+use Rattle.log_laws.specs.Whole.{positive_part}
+use Rattle.log_laws.specs.Linear.{affine_low, affine_high}
+use Rattle.log_laws.proofs.Exports.{≤ℤ_trans, sum_below-scaled_same, least-le, le-greatest, ArePartsBetween, affine_above, affine_below}
+use Rattle.case_types.specs.Arithmetic.Bounds.{Box, one, covolume_range}
+use Rattle.case_types.specs.Arithmetic.Numbers.{Numbers}
+use Rattle.case_types.specs.Arithmetic.Tables.{ends_at}
+use Rattle.pr_params.proofs.Sized.{ends_ordered}
 use Rattle.pr_params.proofs.Weighted.{IsOver, IsUnder, mean_by, mean_over, mean_under, over_less, under_greater}
-use Rattle.pr_params.proofs.Spread.{of_lesser, of_greater, below_all, above_all, corner_least, corner_greatest}
+use Rattle.pr_params.proofs.Spread.{of_lesser, of_greater, below_all, above_all}
 
 -- ---- ends that aren't negative
 pub natural_is : (z : ℤ) → pos 0 ≤ℤ z → z ≡ pos (positive_part z)
@@ -27,90 +28,28 @@ over_end v s f h b = record { is_fraction = b.is_fraction; is = rw (natural_is v
 pub under_end : (v : Ends) (s : ℕ) (f : Fraction) → pos 0 ≤ℤ v.hi → IsBetween v s f → IsUnder (positive_part v.hi) s f
 under_end v s f h b = record { is_fraction = b.is_fraction; is = rw (natural_is v.hi h) at b.below }
 
--- ---- the free fractions of a box, times what their co-volumes have above the last one
 -- the parts of a component lie between ends of the box
 pub record IsInEnds (a b p m : ℕ) : Type 0 where
   pub above : a * m ≤ p * one
   pub below : p * one ≤ b * m
 
-rest_below : (k : ℕ) (p l a b : ℕ → ℕ) (t : ℕ → ℤ) (g m : ℕ) → ((i : ℕ) → i < k → IsInEnds (a i) (b i) (p i) m)
-    → ((i : ℕ) → i < k → (t i +ℤ pos g) ≤ℤ pos (l i))
-    → (int_sum_below k (λ i. int_min (t i *ℤ pos (a i)) (t i *ℤ pos (b i))) *ℤ pos m +ℤ pos (g * (sum_below k p * one))) ≤ℤ pos (sum_below k (λ i. p i * l i) * one)
+-- a weighed sum of numbers that aren't negative is one of natural numbers
+naturals_sum : (k : ℕ) (v : ℕ → ℤ) (l parts : ℕ → ℕ) → ((i : ℕ) → i < k → v i ≡ pos (l i)) →
+    int_sum_below k (λ i. v i *ℤ pos (parts i)) ≡ pos (sum_below k (λ i. parts i * l i))
 unfolding int_sum_below
-rest_below zero p l a b t g m inside less = omega (arith, ints)
-rest_below (suc k) p l a b t g m inside less =
-    let at = inside k (omega arith) in
-    let before = rest_below k p l a b t g m (λ i h. inside i (omega (arith, h))) (λ i h. less i (omega (arith, h))) in
-    let corner = corner_least (t k) (a k) (b k) (p k * one) m at.above at.below in
-    let here = mul-le_ℤ (t k +ℤ pos g) (pos (l k)) (p k * one) (less k (omega arith)) in
-    omega (
-      arith,
-      ints,
-      before,
-      corner,
-      here,
-      add-mul_ℤ (t k) (pos g) (pos (p k * one)),
-      add-mul_ℤ (int_sum_below k (λ i. int_min (t i *ℤ pos (a i)) (t i *ℤ pos (b i)))) (int_min (t k *ℤ pos (a k)) (t k *ℤ pos (b k))) (pos m),
-    )
-
-rest_above : (k : ℕ) (p l a b : ℕ → ℕ) (t : ℕ → ℤ) (g m : ℕ) → ((i : ℕ) → i < k → IsInEnds (a i) (b i) (p i) m)
-    → ((i : ℕ) → i < k → pos (l i) ≤ℤ (t i +ℤ pos g))
-    → pos (sum_below k (λ i. p i * l i) * one) ≤ℤ (int_sum_below k (λ i. int_max (t i *ℤ pos (a i)) (t i *ℤ pos (b i))) *ℤ pos m +ℤ pos (g * (sum_below k p * one)))
-unfolding int_sum_below
-rest_above zero p l a b t g m inside less = omega (arith, ints)
-rest_above (suc k) p l a b t g m inside less =
-    let at = inside k (omega arith) in
-    let before = rest_above k p l a b t g m (λ i h. inside i (omega (arith, h))) (λ i h. less i (omega (arith, h))) in
-    let corner = corner_greatest (t k) (a k) (b k) (p k * one) m at.above at.below in
-    let here = mul-le_ℤ (pos (l k)) (t k +ℤ pos g) (p k * one) (less k (omega arith)) in
-    omega (
-      arith,
-      ints,
-      before,
-      corner,
-      here,
-      add-mul_ℤ (t k) (pos g) (pos (p k * one)),
-      add-mul_ℤ (int_sum_below k (λ i. int_max (t i *ℤ pos (a i)) (t i *ℤ pos (b i)))) (int_max (t k *ℤ pos (a k)) (t k *ℤ pos (b k))) (pos m),
-    )
-
--- ---- what follows of the floor and of the ceiling
--- w is at most (g one + rest) / one
-floor_below : (w rest : ℤ) (g m before parts sum : ℕ) → m ≡ before + parts → (w *ℤ pos one) ≤ℤ (pos g *ℤ pos one +ℤ rest)
-    → (rest *ℤ pos m +ℤ pos (g * (before * one))) ≤ℤ pos (sum * one) → (w *ℤ pos m) ≤ℤ pos (sum + parts * g)
-floor_below w rest g m before parts sum is h k =
-    let q = mul-le_ℤ (w *ℤ pos one) (pos g *ℤ pos one +ℤ rest) m h in
-    let split = add-mul_ℤ (pos g *ℤ pos one) rest (pos m) in
-    let all : ((w *ℤ pos one) *ℤ pos m) ≤ℤ pos ((sum + parts * g) * one) = omega (arith, ints, q, split, k, ap (λ n. g * one * n) is) in
-    let l : ((w *ℤ pos m) *ℤ pos one) ≤ℤ (pos (sum + parts * g) *ℤ pos one) =
-    rw (scale_turned w one m) (rw (scale_scale w one m) at all) in
-    cancelled (w *ℤ pos m) (pos (sum + parts * g)) one (lit< tt) l
-
-ceil_above : (w rest : ℤ) (g m before parts sum : ℕ) → m ≡ before + parts → (pos g *ℤ pos one +ℤ rest) ≤ℤ (w *ℤ pos one)
-    → pos (sum * one) ≤ℤ (rest *ℤ pos m +ℤ pos (g * (before * one))) → pos (sum + parts * g) ≤ℤ (w *ℤ pos m)
-ceil_above w rest g m before parts sum is h k =
-    let q = mul-le_ℤ (pos g *ℤ pos one +ℤ rest) (w *ℤ pos one) m h in
-    let split = add-mul_ℤ (pos g *ℤ pos one) rest (pos m) in
-    let all : pos ((sum + parts * g) * one) ≤ℤ ((w *ℤ pos one) *ℤ pos m) = omega (arith, ints, q, split, k, ap (λ n. g * one * n) is) in
-    let l : (pos (sum + parts * g) *ℤ pos one) ≤ℤ ((w *ℤ pos m) *ℤ pos one) =
-    rw (scale_turned w one m) (rw (scale_scale w one m) at all) in
-    cancelled (pos (sum + parts * g)) (w *ℤ pos m) one (lit< tt) l
+naturals_sum zero v l parts h = refl
+naturals_sum (suc k) v l parts h =
+    let before = naturals_sum k v l parts (λ i less. h i (omega (arith, less))) in
+    rw (before, h k (omega arith)) (omega (arith, ints))
 
 -- ---- the range of the first n components
 abbrev pub low_by : ℕ → List Ends → Box → ℤ
 low_by rest b x =
-    let step : ℕ → ℤ = λ i. (ends_at b i).lo -ℤ (ends_at b rest).hi in
-    floor_div
-    ((ends_at b rest).lo *ℤ pos one
-    +ℤ int_sum_below rest (λ i. int_min (step i *ℤ low_fraction x i) (step i *ℤ high_fraction x i)))
-    (pos one)
+    affine_low rest (ends_at b rest).lo (λ i. (ends_at b i).lo -ℤ (ends_at b rest).hi) (slice_index x.lo) (slice_index x.hi)
 
 abbrev pub high_by : ℕ → List Ends → Box → ℤ
 high_by rest b x =
-    let step : ℕ → ℤ = λ i. (ends_at b i).hi -ℤ (ends_at b rest).lo in
-    ceil_div
-    ((ends_at b rest).hi *ℤ pos one
-    +ℤ int_sum_below rest (λ i. int_max (step i *ℤ low_fraction x i) (step i *ℤ high_fraction x i)))
-    (pos one)
+    affine_high rest (ends_at b rest).hi (λ i. (ends_at b i).hi -ℤ (ends_at b rest).lo) (slice_index x.lo) (slice_index x.hi)
 
 abbrev pub range_by : ℕ → ℕ → List Ends → Box → Ends
 range_by n rest b x =
@@ -140,6 +79,9 @@ pub record AreFree (rest : ℕ) (x : Box) (parts : ℕ → ℕ) (m : ℕ) : Type
   pub all : m ≡ sum_below (suc rest) parts
   pub inside : (i : ℕ) → i < rest → IsInEnds (slice_index x.lo i) (slice_index x.hi i) (parts i) m
 
+between_ends : (rest : ℕ) (x : Box) (parts : ℕ → ℕ) (m : ℕ) → AreFree rest x parts m → ArePartsBetween rest (slice_index x.lo) (slice_index x.hi) parts m
+between_ends rest x parts m box = record { all = box.all; above = λ i h. (box.inside i h).above; below = λ i h. (box.inside i h).below }
+
 -- the same number, as an order
 same_at_most : (a z : ℤ) → a ≡ z → a ≤ℤ z
 same_at_most a z e = omega (arith, ints, e)
@@ -159,15 +101,11 @@ range_above r b x parts m s f hs box h =
     (λ i k. ≤ℤ_trans _ _ _ (least-le (suc r) i (λ j. (ends_at b j).lo) (ends_at b 0).lo k)
     (same_at_most (ends_at b i).lo (pos (l i)) (natural_is (ends_at b i).lo (h i k).low)))) in
     let last = h r (omega arith) in
-    let step : ℕ → ℤ = λ i. (ends_at b i).lo -ℤ (ends_at b r).hi in
-    let rest = int_sum_below r (λ i. int_min (step i *ℤ low_fraction x i) (step i *ℤ high_fraction x i)) in
     let ordered = ends_ordered (ends_at b r) s (f r) last.held in
-    let last_is = natural_is (ends_at b r).lo last.low in
-    let rests = rest_below r parts l (slice_index x.lo) (slice_index x.hi) step (l r) m (λ i k. box.inside i k)
-    (λ i k. let e = natural_is (ends_at b i).lo (h i (omega (arith, k))).low in omega (arith, ints, e, last_is, ordered)) in
-    let floor = floor_over-le ((ends_at b r).lo *ℤ pos one +ℤ rest) one (lit< tt) in
-    let by_rest = floor_below (low_by r b x) rest (l r) m (sum_below r parts) (parts r) (sum_below r (λ i. parts i * l i)) box.all
-    (omega (arith, ints, floor, last_is)) rests in
+    let below = affine_below r (ends_at b r).lo (λ i. (ends_at b i).lo -ℤ (ends_at b r).hi) (λ i. (ends_at b i).lo) (slice_index x.lo) (slice_index x.hi) parts m
+    (between_ends r x parts m box) (λ i k. omega (arith, ints, ordered)) (omega (arith, ints)) in
+    let by_rest : (low_by r b x *ℤ pos m) ≤ℤ pos sum =
+    rw (naturals_sum (suc r) (λ i. (ends_at b i).lo) l parts (λ i k. natural_is (ends_at b i).lo (h i k).low)) at below in
     of_greater (λ z. (z *ℤ pos mean.den) ≤ℤ (mean.num *ℤ pos s)) least (low_by r b x)
     (over_less least sum m s mean box.some by_least over)
     (over_less (low_by r b x) sum m s mean box.some by_rest over)
@@ -186,14 +124,10 @@ sum_in_range r b x parts m box high ordered =
     (above_all (suc r) parts l greatest
     (λ i k. ≤ℤ_trans _ _ _ (same_at_most (pos (l i)) (ends_at b i).hi (sym (natural i k)))
     (le-greatest (suc r) i (λ j. (ends_at b j).hi) (ends_at b 0).hi k))) in
-    let step : ℕ → ℤ = λ i. (ends_at b i).hi -ℤ (ends_at b r).lo in
-    let rest = int_sum_below r (λ i. int_max (step i *ℤ low_fraction x i) (step i *ℤ high_fraction x i)) in
-    let last_is = natural r (omega arith) in
-    let rests = rest_above r parts l (slice_index x.lo) (slice_index x.hi) step (l r) m (λ i k. box.inside i k)
-    (λ i k. let e = natural i (omega (arith, k)) in omega (arith, ints, e, last_is, ordered)) in
-    let ceil = le-ceil_over ((ends_at b r).hi *ℤ pos one +ℤ rest) one (lit< tt) in
-    let by_rest = ceil_above (high_by r b x) rest (l r) m (sum_below r parts) (parts r) (sum_below r (λ i. parts i * l i)) box.all
-    (omega (arith, ints, ceil, last_is)) rests in
+    let above = affine_above r (ends_at b r).hi (λ i. (ends_at b i).hi -ℤ (ends_at b r).lo) (λ i. (ends_at b i).hi) (slice_index x.lo) (slice_index x.hi) parts m
+    (between_ends r x parts m box) (λ i k. omega (arith, ints, ordered)) (omega (arith, ints)) in
+    let by_rest : pos sum ≤ℤ (high_by r b x *ℤ pos m) =
+    rw (naturals_sum (suc r) (λ i. (ends_at b i).hi) l parts natural) at above in
     of_lesser (λ z. pos sum ≤ℤ (z *ℤ pos m)) greatest (high_by r b x) by_greatest by_rest
 
 range_below : (r : ℕ) (b : List Ends) (x : Box) (parts : ℕ → ℕ) (m s : ℕ) (f : ℕ → Fraction) → 0 < s → AreFree r x parts m

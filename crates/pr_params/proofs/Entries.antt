@@ -6,8 +6,8 @@ use Rattle.log_laws.specs.Roots.{root_ends}
 use Rattle.log_laws.specs.Sums.{list_below, greatest_below}
 use Rattle.log_laws.specs.Whole.{ceil_div}
 use Rattle.case_types.specs.declared.cases.Case.{Case}
-use Rattle.case_types.specs.Numbers.{Numbers, numbers_of, enclosures_of, lift_of, alpha_root_ends, attraction_ends, table_below}
-use Rattle.case_types.specs.Tables.{ends_at, ends_of_pair}
+use Rattle.case_types.specs.Arithmetic.Numbers.{Numbers, numbers_of, enclosures_of, lift_of, alpha_root_ends, attraction_ends, table_below}
+use Rattle.case_types.specs.Arithmetic.Tables.{ends_at, ends_of_pair}
 use Rattle.pr_params.specs.Entries.{temperature_entry, alpha_entry, covolume_entry, pressure_entry, bare_entry, attraction_entry, ratio_entry}
 use Rattle.pr_params.proofs.AtComponents.{alpha_root_at, covolume_at, bare_attraction_at, attraction_at}
 use Rattle.pr_params.proofs.Right.{temperature_at}

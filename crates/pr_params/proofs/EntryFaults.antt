@@ -8,8 +8,8 @@ use Rattle.std.proofs.lemmas.Int.{ints, clamps}
 use Rattle.log_laws.specs.Between.{Ends}
 use Rattle.case_types.specs.declared.cases.Case.{Case}
 use Rattle.case_types.specs.declared.cases.ParamFault.TheVariants.{BRange, BRatio, MRange, ARange}
-use Rattle.case_types.specs.Faults.{fault_of, fault_where, covolumes_in_range, covolumes_are_near, alpha_fault, attraction_fault, first_below}
-use Rattle.case_types.specs.Numbers.{numbers_of, attraction_ends}
+use Rattle.case_types.specs.Arithmetic.Faults.{fault_of, fault_where, covolumes_in_range, covolumes_are_near, alpha_fault, attraction_fault, first_below}
+use Rattle.case_types.specs.Arithmetic.Numbers.{numbers_of, attraction_ends}
 use Rattle.pr_params.specs.Entries.{alpha_entry, covolume_entry, bare_entry, attraction_entry}
 use Rattle.pr_params.proofs.Bares.{bare_turned}
 use Rattle.pr_params.proofs.Below.{or_else_none, first_below_none}

@@ -1,5 +1,5 @@
 -- How large the roots of alpha and the attractions of pairs are.
-use Rattle.std.proofs.Common.{◌≡◌, ℕ, ◌+◌, ◌*◌, ◌/◌, ◌^◌, ◌<◌, ◌≤◌, IsTrue, arith, ℤ, pos, negsuc, neg_ℤ, ◌+ℤ◌, ◌-ℤ◌, ◌*ℤ◌, ◌≤ℤ◌, ◌<ℤ◌, unsigned_abs, lit<}
+use Rattle.std.proofs.Common.{◌≡◌, ℕ, ◌+◌, ◌*◌, ◌/◌, ◌^◌, ◌<◌, ◌≤◌, IsTrue, arith, ℤ, pos, negsuc, ◌+ℤ◌, ◌-ℤ◌, ◌*ℤ◌, ◌≤ℤ◌, ◌<ℤ◌, unsigned_abs, lit<}
 use Rattle.std.specs.Int.{int_max}
 use Rattle.std.proofs.Math.Nat.{mul-le-mul, div-lt_iff_lt-mul, pow-le-pow_right}
 use Rattle.std.proofs.lemmas.Int.{ints, clamps}
@@ -7,38 +7,26 @@ use Rattle.std.proofs.lemmas.Nat.{le-div}
 use Rattle.log_laws.specs.Between.{Ends}
 use Rattle.log_laws.specs.Roots.{root_floor}
 use Rattle.log_laws.specs.Whole.{ceil_over}
-use Rattle.log_laws.proofs.Exports.{ceil_over-pos, product_pos}
-use Rattle.root_enclose.proofs.RootDigits.{floor_root_is}
-use Rattle.root_enclose.proofs.Squares.{IsFloorRootOver, floor_root_over}
+use Rattle.log_laws.proofs.Exports.{ceil_over-pos, product_pos, natural, product_at_most}
+use Rattle.root_enclose.proofs.Exports.{floor_root_is, IsFloorRootOver, floor_root_over}
 use Rattle.case_types.specs.declared.cases.Case.{Case}
-use Rattle.case_types.specs.CaseWords.{critical_temperature, critical_pressure, acentric_factor, interaction}
-use Rattle.case_types.specs.Faults.{covolumes_in_range}
-use Rattle.case_types.specs.Numbers.{lift_of}
-use Rattle.case_types.specs.Parameters.{kappa_of, cohesion_den}
+use Rattle.case_types.specs.Energy.Components.{critical_temperature, acentric_factor, interaction}
+use Rattle.case_types.specs.Arithmetic.Faults.{covolumes_in_range}
+use Rattle.case_types.specs.Arithmetic.Numbers.{lift_of}
+use Rattle.case_types.specs.Energy.Parameters.{kappa_of, kappa_scale, covolume_num, covolume_den, cohesion_den}
 use Rattle.pr_params.specs.Entries.{temperature_entry, alpha_entry, covolume_entry, pressure_entry, bare_entry}
 use Rattle.pr_params.proofs.Accepted.{bare_positive}
+use Rattle.pr_params.proofs.Alpha.{kappa_small}
 use Rattle.pr_params.proofs.Bares.{bare_fits}
 use Rattle.pr_params.proofs.Components.{component_at, den_positive_at, interaction_at_least, interaction_at_most}
-use Rattle.pr_params.proofs.CommonLift.{fits_at}
+use Rattle.pr_params.proofs.GreatestLift.{fits_at}
 use Rattle.pr_params.proofs.ParametersHold.{cohesion_natural, den_positive}
 use Rattle.pr_params.proofs.Pressures.{root_positive}
-use Rattle.pr_params.proofs.Signed.{natural, product_at_most}
-use Rattle.pr_params.proofs.Sizes.{ceiling_at_most, quotient_high}
+use Rattle.log_laws.proofs.Exports.{ceiling_at_most}
+use Rattle.pr_params.proofs.Sizes.{quotient_high}
 use Rattle.pr_params.proofs.Temperature.{root_small, ceiling_near}
 
 -- ---- the root of alpha
-kappa_small : (w : ℤ) → neg_ℤ (pos 5000) ≤ℤ w → w ≤ℤ pos 15000 → unsigned_abs (kappa_of w) ≤ 2 ^ 45
-kappa_small w low high =
-    let abs : unsigned_abs w ≤ 15000 = omega (arith, ints, low, high) in
-    let slope = product_at_most (pos (154226 * 10 ^ 4)) w (154226 * 10 ^ 4) 15000 (omega arith) abs in
-    let once = product_at_most (pos 26992) w 26992 15000 (omega arith) abs in
-    let bend = product_at_most (pos 26992 *ℤ w) w (26992 * 15000) 15000 once abs in
-    three (pos (154226 * 10 ^ 4) *ℤ w) (pos 26992 *ℤ w *ℤ w) slope bend
-  where
-    three : (a b : ℤ) → unsigned_abs a ≤ 154226 * 10 ^ 4 * 15000 → unsigned_abs b ≤ 26992 * 15000 * 15000 →
-        unsigned_abs (pos (37464 * 10 ^ 8) +ℤ a -ℤ b) ≤ 2 ^ 45
-    three a b h g = omega (arith, ints, h, g)
-
 record IsSmallRoot (v : Ends) : Type 0 where
   low : pos 0 ≤ℤ v.lo
   low_small : v.lo <ℤ pos (2 ^ 53)
@@ -60,29 +48,30 @@ temperature_small c i h =
     let small = root_small r c.t tc floor.square k.tc_low t_high in
     record { low = omega (arith, ints); low_small = omega (arith, ints, small); high = omega (arith, ints); high_small = omega (arith, ints, near, small) }
 
-ceiling_small : (z : ℤ) → unsigned_abs z ≤ 2 ^ 45 * 2 ^ 53 → ceil_over z (10 ^ 13) ≤ℤ pos (2 ^ 55)
+ceiling_small : (z : ℤ) → unsigned_abs z ≤ 2 ^ 62 * 2 ^ 53 → ceil_over z kappa_scale ≤ℤ pos (3 * 2 ^ 54)
 ceiling_small (pos n) h =
-    let q = ceiling_at_most n (10 ^ 13) (2 ^ 55) (lit< tt) (omega (arith, h)) in
-    rw (ceil_over-pos n (10 ^ 13) (lit< tt)) (omega (arith, ints, q))
+    let q = ceiling_at_most n kappa_scale (3 * 2 ^ 54) (lit< tt) (omega (arith, h)) in
+    rw (ceil_over-pos n kappa_scale (lit< tt)) (omega (arith, ints, q))
 ceiling_small (negsuc n) h = omega (arith, ints)
 
 pub alpha_high : (c : Case) (i : ℕ) → i < c.n → (alpha_entry c i).hi ≤ℤ pos (2 ^ 56)
 unfolding alpha_entry
 alpha_high c i h =
     let k = component_at c i h in
-    let kappa = kappa_of (acentric_factor c i) in
-    let size = kappa_small (acentric_factor c i) k.w_low k.w_high in
+    let kappa = kappa_of c.edition (acentric_factor c i) in
+    let small = kappa_small c.edition (acentric_factor c i) k.w_low k.w_high in
+    let size : unsigned_abs kappa ≤ 2 ^ 62 = omega (arith, small) in
     let t = temperature_entry c i in
     let root = temperature_small c i h in
     let lo : unsigned_abs (pos (2 ^ 48) -ℤ t.lo) ≤ 2 ^ 53 = omega (arith, ints, root.low, root.low_small) in
     let hi : unsigned_abs (pos (2 ^ 48) -ℤ t.hi) ≤ 2 ^ 53 = omega (arith, ints, root.high, root.high_small) in
-    let x = product_at_most kappa (pos (2 ^ 48) -ℤ t.lo) (2 ^ 45) (2 ^ 53) size lo in
-    let y = product_at_most kappa (pos (2 ^ 48) -ℤ t.hi) (2 ^ 45) (2 ^ 53) size hi in
+    let x = product_at_most kappa (pos (2 ^ 48) -ℤ t.lo) (2 ^ 62) (2 ^ 53) size lo in
+    let y = product_at_most kappa (pos (2 ^ 48) -ℤ t.hi) (2 ^ 62) (2 ^ 53) size hi in
     at_most (kappa *ℤ (pos (2 ^ 48) -ℤ t.lo)) (kappa *ℤ (pos (2 ^ 48) -ℤ t.hi)) x y
   where
-    at_most : (a b : ℤ) → unsigned_abs a ≤ 2 ^ 45 * 2 ^ 53 → unsigned_abs b ≤ 2 ^ 45 * 2 ^ 53 → (pos (2 ^ 48) +ℤ ceil_over (int_max a b) (10 ^ 13)) ≤ℤ pos (2 ^ 56)
+    at_most : (a b : ℤ) → unsigned_abs a ≤ 2 ^ 62 * 2 ^ 53 → unsigned_abs b ≤ 2 ^ 62 * 2 ^ 53 → (pos (2 ^ 48) +ℤ ceil_over (int_max a b) kappa_scale) ≤ℤ pos (2 ^ 56)
     at_most a b h g =
-        let m : unsigned_abs (int_max a b) ≤ 2 ^ 45 * 2 ^ 53 = omega (arith, ints, clamps, h, g) in
+        let m : unsigned_abs (int_max a b) ≤ 2 ^ 62 * 2 ^ 53 = omega (arith, ints, clamps, h, g) in
         let s = ceiling_small (int_max a b) m in
         omega (arith, ints, s)
 
@@ -108,26 +97,21 @@ bare_high c i j r h g =
     rw (cohesion_natural c i j h g, is, ceil_over-pos num (cohesion_den c * q) den) (omega (arith, ints, s))
 
 -- ---- the co-volume
-covolume_some : (p tc pc t lift : ℕ) → 1000 ≤ p → 5000 ≤ tc → pc ≤ 50000000 → t ≤ 1500000 → 1 * (5000 * pc * t) ≤ 389 * p * tc * 2 ^ (56 + lift)
-covolume_some p tc pc t lift pl tl ph th =
-    let num = mul-le-mul pl tl in
-    let den = mul-le-mul ph th in
-    let power : 2 ^ 56 ≤ 2 ^ (56 + lift) = pow-le-pow_right (lit< tt) {i = 56} {j = 56 + lift} (omega arith) in
-    let raised = mul-le-mul num power in
-    omega (arith, den, raised)
-
 pub covolume_positive : (c : Case) (i : ℕ) → i < c.n → pos 1 ≤ℤ (covolume_entry c i).lo
 unfolding covolume_entry
 covolume_positive c i h =
     let k = component_at c i h in
-    let num : ℕ = 389 * c.p * critical_temperature c i * 2 ^ (56 + lift_of c) in
-    let den : ℕ = 5000 * critical_pressure c i * c.t in
-    let some = covolume_some c.p (critical_temperature c i) (critical_pressure c i) c.t (lift_of c) c.p_low k.tc_low k.pc_high c.t_high in
-    let q : 1 ≤ num / den = le-div 1 num den (den_positive_at c i h) some in
+    let hot = c.t_high in
+    let num = mul-le-mul c.p_low k.tc_low in
+    let den = mul-le-mul k.pc_high hot in
+    let power : 2 ^ 56 ≤ 2 ^ (56 + lift_of c) = pow-le-pow_right (lit< tt) {i = 56} {j = 56 + lift_of c} (omega arith) in
+    let raised = mul-le-mul num power in
+    let some : 1 * covolume_den c i ≤ covolume_num c i * 2 ^ (56 + lift_of c) = omega (arith, den, raised) in
+    let q : 1 ≤ covolume_num c i * 2 ^ (56 + lift_of c) / covolume_den c i = le-div 1 _ _ (den_positive_at c i h) some in
     omega (arith, ints, q)
 
 pub covolume_high : (c : Case) (i : ℕ) → IsTrue (covolumes_in_range c) → i < c.n → (covolume_entry c i).lo ≤ℤ pos (2 ^ 61)
 unfolding covolume_entry
 covolume_high c i r h =
-    let q = quotient_high (389 * c.p * critical_temperature c i) (5000 * critical_pressure c i * c.t) (lift_of c) (fits_at c i r h) in
+    let q = quotient_high (covolume_num c i) (covolume_den c i) (lift_of c) (fits_at c i r h) in
     omega (arith, ints, q)

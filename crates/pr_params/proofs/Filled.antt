@@ -2,11 +2,11 @@
 use Rattle.std.proofs.Common.{◌≡◌, ℕ, List, ℤ, refl, sym}
 use Rattle.log_laws.specs.LogE.{log_e_ends}
 use Rattle.log_laws.specs.Roots.{root_ends}
-use Rattle.fix_interval.specs.declared.iv.Iv.{Iv}
-use Rattle.fix_interval.specs.Interval.{ends_of}
+use Rattle.log_laws.specs.declared.iv.Iv.{Iv}
+use Rattle.log_laws.specs.Interval.{ends_of}
 use Rattle.case_types.specs.declared.cases.Case.{Case}
-use Rattle.case_types.specs.Numbers.{numbers_of, enclosures_of, lift_of}
-use Rattle.case_types.specs.Printed.{enclosures_in}
+use Rattle.case_types.specs.Arithmetic.Numbers.{numbers_of, enclosures_of, lift_of}
+use Rattle.case_types.specs.Energy.Printed.{enclosures_in}
 use Rattle.pr_params.specs.Entries.{temperature_entry, alpha_entry, covolume_entry, bare_entry, attraction_entry, ends_of_all, ends_of_table, filled, filled_table}
 use Rattle.pr_params.specs.Held.{numbers_in}
 use Rattle.pr_params.proofs.Entries.{greatest_entry, same_numbers}

@@ -3,8 +3,8 @@ use Rattle.std.proofs.Common.{◌≡◌, true, false, Some, None, refl}
 use Rattle.case_types.specs.declared.cases.Case.{Case}
 use Rattle.case_types.specs.declared.cases.ParamFault.{ParamFault}
 use Rattle.case_types.specs.declared.cases.ParamFault.TheVariants.{BRange, BRatio}
-use Rattle.case_types.specs.Faults.{fault_of, covolumes_in_range, covolumes_are_near, first_below, alpha_fault, attraction_fault}
-use Rattle.case_types.specs.Numbers.{numbers_of}
+use Rattle.case_types.specs.Arithmetic.Faults.{fault_of, covolumes_in_range, covolumes_are_near, first_below, alpha_fault, attraction_fault}
+use Rattle.case_types.specs.Arithmetic.Numbers.{numbers_of}
 
 pub range_fault : (c : Case) → covolumes_in_range c ≡ false → fault_of c ≡ Some BRange
 unfolding fault_of

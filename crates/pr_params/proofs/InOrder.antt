@@ -10,12 +10,12 @@ use Rattle.log_laws.proofs.Exports.{mul-le_ℤ}
 use Rattle.log_laws.specs.Sums.{greatest_below}
 use Rattle.log_laws.specs.Whole.{ceil_div}
 use Rattle.case_types.specs.declared.cases.Case.{Case}
-use Rattle.case_types.specs.CaseWords.{critical_pressure}
-use Rattle.case_types.specs.Faults.{fault_of}
-use Rattle.case_types.specs.Instances.{HoldsRoot, Instance, pair_place}
-use Rattle.case_types.specs.Numbers.{numbers_of, lift_of, enclosures_of, pressure_root_of, attraction_ends}
-use Rattle.case_types.specs.Parameters.{bare_attraction}
-use Rattle.case_types.specs.Tables.{ends_at, ends_of_pair}
+use Rattle.case_types.specs.Energy.Components.{critical_pressure}
+use Rattle.case_types.specs.Arithmetic.Faults.{fault_of}
+use Rattle.case_types.specs.Energy.Instances.{HoldsRoot, Instance, pair_place}
+use Rattle.case_types.specs.Arithmetic.Numbers.{numbers_of, lift_of, enclosures_of, pressure_root_of, attraction_ends}
+use Rattle.case_types.specs.Energy.Parameters.{bare_attraction}
+use Rattle.case_types.specs.Arithmetic.Tables.{ends_at, ends_of_pair}
 use Rattle.pr_params.proofs.Accepted.{ratio_sizes, bare_positive}
 use Rattle.pr_params.proofs.AcceptedSizes.{covolume_least, attraction_high_least, alpha_ordered, usable}
 use Rattle.pr_params.proofs.AtComponents.{attraction_at, bare_attraction_at, alpha_root_at}

@@ -9,16 +9,16 @@ use Rattle.log_laws.specs.Fraction.{Fraction, IsAtMost, negated, difference}
 use Rattle.log_laws.specs.LogSum.{LogSum, AtLeast, AtMost, ratio, IsPositive, times_log}
 use Rattle.log_laws.specs.Squaring.{down as digits_down, up as digits_up, log_down, log_up}
 use Rattle.log_laws.specs.Whole.{ceil_quotient}
-use Rattle.log_laws.proofs.Exports.{at_most_is_opposite, IsParts, parts_self, parts_sum_at, product_pos, ceil_over-pos, one, over_den, lowered, quotient_at_least, minus_log_quotient, at_least-same, same_argument_of, quotient_of_parts, order_of_ratios}
+use Rattle.log_laws.proofs.Exports.{at_most_is_opposite, IsParts, parts_self, parts_sum_at, product_pos, ceil_over-pos, fraction_one, over_den, lowered, quotient_at_least, minus_log_quotient, at_least-same, same_argument_of, quotient_of_parts, order_of_ratios}
 use Rattle.log_enclose.proofs.Exports.{log_down_at_least, log_up_at_most}
-use Rattle.case_types.specs.Bounds.{lambda_up, lambda_down, stretched_up, stretched_down}
-use Rattle.case_types.specs.Divisions.{bits, log_of, minus_log_of, attraction_argument}
+use Rattle.case_types.specs.Arithmetic.Bounds.{lambda_up, lambda_down, stretched_up, stretched_down}
+use Rattle.case_types.specs.Energy.Divisions.{bits, log_of, minus_log_of, attraction_argument}
 use Rattle.case_types.specs.declared.cases.Case.{Case}
-use Rattle.case_types.specs.Instances.{Instance, IsInstance}
-use Rattle.case_types.specs.Numbers.{Numbers, numbers_of, enclosures_of}
+use Rattle.case_types.specs.Energy.Instances.{Instance, IsInstance}
+use Rattle.case_types.specs.Arithmetic.Numbers.{Numbers, numbers_of, enclosures_of}
 use Rattle.pr_params.proofs.Accepted.{two_exact}
 use Rattle.pr_params.specs.Packings.{IsPacking}
-use Rattle.pr_params.proofs.Attracted.{le-ceiling}
+use Rattle.log_laws.proofs.Exports.{le-ceiling}
 use Rattle.pr_params.proofs.Argument.{IsRoot, IsShare, room, by_quotients, argument_parts}
 
 -- the ends of the root of 2
@@ -62,10 +62,10 @@ root_room e Y u h l k =
     (omega arith, omega arith, omega arith)
 
 -- ---- the ends
-stretched_up_is : (p : Numbers) (y : ℕ) → p.root_two ≡ two_ends → stretched_up p y ≡ ceil_quotient (1630477228166597777 * y) (2 ^ 60)
+pub stretched_up_is : (p : Numbers) (y : ℕ) → p.root_two ≡ two_ends → stretched_up p y ≡ ceil_quotient (1630477228166597777 * y) (2 ^ 60)
 stretched_up_is p y e = rw e (ap unsigned_abs (ceil_over-pos (1630477228166597777 * y) (2 ^ 60) (lit< tt)))
 
-stretched_down_is : (p : Numbers) (y : ℕ) → p.root_two ≡ two_ends → stretched_down p y ≡ 1630477228166597776 * y / 2 ^ 60
+pub stretched_down_is : (p : Numbers) (y : ℕ) → p.root_two ≡ two_ends → stretched_down p y ≡ 1630477228166597776 * y / 2 ^ 60
 stretched_down_is p y e = rw e refl
 
 -- a difference of bounds over one denominator
@@ -102,8 +102,8 @@ module _ (sn sd yn yd Rd : ℕ) (root : IsRoot sn sd 1630477228166597776 1630477
       let s = share_below sn sd yn yd 1630477228166597777 Y u root.to to low in
       let q = quotient_order (2 ^ 40 + Y) u (2 ^ 40 + Y - u) (yd * sd + yn * sd) (sn * yn) Rd r.1 Rd_is s in
       let R = yd * sd + yn * sd + sn * yn in
-      respelled (negated one) (attraction_argument (ratio sn sd) (ratio yn yd)) R Rd (bits (log_down (2 ^ 40 + Y - u) 40 -ℤ log_up (2 ^ 40 + Y + u) 40)) (lit< tt) parts above_pos
-      (at_difference (times_log (negated one) (ratio R Rd)) (log_down (2 ^ 40 + Y - u) 40) (log_up (2 ^ 40 + Y + u) 40) (2 ^ 40) o
+      respelled (negated fraction_one) (attraction_argument (ratio sn sd) (ratio yn yd)) R Rd (bits (log_down (2 ^ 40 + Y - u) 40 -ℤ log_up (2 ^ 40 + Y + u) 40)) (lit< tt) parts above_pos
+      (at_difference (times_log (negated fraction_one) (ratio R Rd)) (log_down (2 ^ 40 + Y - u) 40) (log_up (2 ^ 40 + Y + u) 40) (2 ^ 40) o
       (minus_log_quotient (2 ^ 40 + Y - u) (2 ^ 40) (2 ^ 40 + Y + u) (2 ^ 40) R Rd (bits (log_down (2 ^ 40 + Y - u) 40)) (bits (log_up (2 ^ 40 + Y + u) 40))
       r.0 o (omega arith) o above_pos pRd (times_forty (2 ^ 40 + Y - u) R Rd (2 ^ 40 + Y + u) q)
       (log_down_at_least (2 ^ 40 + Y - u) 40 r.0 (omega arith))
@@ -120,8 +120,8 @@ module _ (sn sd yn yd Rd : ℕ) (root : IsRoot sn sd 1630477228166597776 1630477
       let s = share_above sn sd yn yd 1630477228166597776 Y u root.from from low in
       let R = yd * sd + yn * sd + sn * yn in
       let q = quotient_order (yd * sd + yn * sd) (sn * yn) Rd (2 ^ 40 + Y) u (2 ^ 40 + Y - u) Rd_is r.1 s in
-      respelled one (attraction_argument (ratio sn sd) (ratio yn yd)) R Rd (bits (log_down (2 ^ 40 + Y + u) 40 -ℤ log_up (2 ^ 40 + Y - u) 40)) (lit< tt) parts above_pos
-      (at_difference (times_log one (ratio R Rd)) (log_down (2 ^ 40 + Y + u) 40) (log_up (2 ^ 40 + Y - u) 40) (2 ^ 40) o
+      respelled fraction_one (attraction_argument (ratio sn sd) (ratio yn yd)) R Rd (bits (log_down (2 ^ 40 + Y + u) 40 -ℤ log_up (2 ^ 40 + Y - u) 40)) (lit< tt) parts above_pos
+      (at_difference (times_log fraction_one (ratio R Rd)) (log_down (2 ^ 40 + Y + u) 40) (log_up (2 ^ 40 + Y - u) 40) (2 ^ 40) o
       (quotient_at_least (2 ^ 40 + Y + u) (2 ^ 40) (2 ^ 40 + Y - u) (2 ^ 40) R Rd (bits (log_down (2 ^ 40 + Y + u) 40)) (bits (log_up (2 ^ 40 + Y - u) 40))
       (omega arith) o r.0 o above_pos pRd (times_forty Rd (2 ^ 40 + Y + u) (2 ^ 40 + Y - u) R q)
       (log_down_at_least (2 ^ 40 + Y + u) 40 (omega arith) (let k = r.2 in omega arith))

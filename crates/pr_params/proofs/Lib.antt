@@ -4,11 +4,13 @@ pub mod Alpha
 pub mod Temperature
 pub mod Faulted
 pub mod Accepted
-pub mod Signed
 pub mod Mean
 pub mod Argument
 pub mod Lambda
 pub mod Pull
+pub mod AttractionTerm
+pub mod EnergyTerms
+pub mod PackingLogs
 pub mod Sized
 pub mod Weighted
 pub mod Spread
@@ -28,7 +30,6 @@ pub mod InOrder
 pub mod HeldAt
 pub mod MeansHold
 pub mod GreatestLift
-pub mod CommonLift
 pub mod Slots
 pub mod Entries
 pub mod Placed
@@ -38,3 +39,4 @@ pub mod EntrySizes
 pub mod EntryFaults
 pub mod FirstFault
 pub mod Filled
+pub mod Exports

@@ -3,8 +3,8 @@ use Rattle.std.proofs.Common.{◌≡◌, ℕ, ◌*◌, ◌/◌, ◌^◌, ◌<◌
 use Rattle.std.specs.Int.{int_min}
 use Rattle.log_laws.specs.Whole.{ceil_quotient}
 use Rattle.log_laws.proofs.Exports.{ceil_over-pos}
-use Rattle.case_types.specs.Bounds.{Box, covolume_range, attraction_low, attraction_high, ratio_low, ratio_high}
-use Rattle.case_types.specs.Numbers.{Numbers}
+use Rattle.case_types.specs.Arithmetic.Bounds.{Box, covolume_range, attraction_low, attraction_high, ratio_low, ratio_high}
+use Rattle.case_types.specs.Arithmetic.Numbers.{Numbers}
 
 -- the ratio at most from natural numbers
 pub ratio_high_is : (p : Numbers) (x : Box) (m b : ℕ) → 0 < b → attraction_high p x ≡ pos m → (covolume_range p x).lo ≡ pos b →

@@ -10,14 +10,14 @@ use Rattle.log_laws.proofs.Exports.{≤ℤ_trans}
 use Rattle.log_laws.specs.Sums.{sum_below, least_below, greatest_below}
 use Rattle.case_types.specs.declared.cases.Case.{Case}
 use Rattle.case_types.specs.declared.cells.BoxX.{BoxX}
-use Rattle.case_types.specs.Bounds.{Box, covolume_range, attraction_low, attraction_high, covolume_low_by_rest, covolume_high_by_rest, ratio_low, ratio_high}
-use Rattle.case_types.specs.Divisions.{State, moles, mean_covolume, mean_attraction}
-use Rattle.case_types.specs.Faults.{fault_of}
-use Rattle.case_types.specs.Holding.{HoldsParameters, IsInBox, HoldsMeans}
-use Rattle.case_types.specs.Instances.{Instance, IsInstance}
-use Rattle.case_types.specs.Numbers.{Numbers, numbers_of, enclosures_of, lift_of}
-use Rattle.case_types.specs.Parameters.{covolume, attraction}
-use Rattle.case_types.specs.Tables.{ends_at, ends_of_pair}
+use Rattle.case_types.specs.Arithmetic.Bounds.{Box, covolume_range, attraction_low, attraction_high, covolume_low_by_rest, covolume_high_by_rest, ratio_low, ratio_high}
+use Rattle.case_types.specs.Energy.Divisions.{State, moles, mean_covolume, mean_attraction}
+use Rattle.case_types.specs.Arithmetic.Faults.{fault_of}
+use Rattle.case_types.specs.Arithmetic.Holding.{HoldsParameters, IsInBox, HoldsMeans}
+use Rattle.case_types.specs.Energy.Instances.{Instance, IsInstance}
+use Rattle.case_types.specs.Arithmetic.Numbers.{Numbers, numbers_of, enclosures_of, lift_of}
+use Rattle.case_types.specs.Energy.Parameters.{covolume, attraction}
+use Rattle.case_types.specs.Arithmetic.Tables.{ends_at, ends_of_pair}
 use Rattle.pr_params.proofs.Accepted.{two_exact, e_exact, lift_small}
 use Rattle.pr_params.proofs.AcceptedSizes.{usable, covolume_least, covolume_most}
 use Rattle.pr_params.proofs.AllMeans.{AreMeans, all_means, le-least, least_attraction_below, floor_ratio_most}
@@ -27,7 +27,7 @@ use Rattle.pr_params.proofs.InOrder.{greatest-le, attraction_most, attraction_in
 use Rattle.pr_params.proofs.AttractionRange.{shared_down}
 use Rattle.pr_params.proofs.ParametersHold.{covolume_within, holds_parameters}
 use Rattle.pr_params.proofs.Sized.{IsSized, count_of, each_at_most, ends_ordered}
-use Rattle.pr_params.specs.Boxes.{box_of}
+use Rattle.case_types.specs.Arithmetic.Bounds.{box_of}
 use Rattle.pr_params.specs.declared.numbers.Params.{Params}
 
 -- the parts of a phase in the box

@@ -9,13 +9,13 @@ use Rattle.log_laws.specs.Fraction.{Fraction, whole}
 use Rattle.log_laws.proofs.Exports.{pow_pos_of}
 use Rattle.case_types.specs.declared.cases.Case.{Case}
 use Rattle.case_types.specs.declared.cases.ParamFault.TheVariants.{MRange}
-use Rattle.case_types.specs.CaseWords.{critical_temperature, critical_pressure, acentric_factor, interaction}
-use Rattle.case_types.specs.Faults.{fault_of, alpha_fault}
-use Rattle.case_types.specs.Holding.{HoldsParameters}
-use Rattle.case_types.specs.Instances.{Enclosures, AreRight, Instance, IsInstance}
-use Rattle.case_types.specs.Numbers.{numbers_of, enclosures_of, lift_of, covolume_ends, alpha_root_ends, bare_attraction_ends, pressure_root_of}
-use Rattle.case_types.specs.Parameters.{kappa_of, covolume, alpha_root, bare_attraction, cohesion_num, cohesion_den}
-use Rattle.case_types.specs.Tables.{ends_at, ends_of_pair}
+use Rattle.case_types.specs.Energy.Components.{critical_temperature, critical_pressure, acentric_factor, interaction}
+use Rattle.case_types.specs.Arithmetic.Faults.{fault_of, alpha_fault}
+use Rattle.case_types.specs.Arithmetic.Holding.{HoldsParameters}
+use Rattle.case_types.specs.Energy.Instances.{Enclosures, AreRight, Instance, IsInstance}
+use Rattle.case_types.specs.Arithmetic.Numbers.{numbers_of, enclosures_of, lift_of, covolume_ends, alpha_root_ends, bare_attraction_ends, pressure_root_of}
+use Rattle.case_types.specs.Energy.Parameters.{kappa_of, kappa_scale, covolume_num, covolume_den, covolume, alpha_root, bare_attraction, cohesion_num, cohesion_den}
+use Rattle.case_types.specs.Arithmetic.Tables.{ends_at, ends_of_pair}
 use Rattle.pr_params.proofs.Accepted.{bare_positive}
 use Rattle.pr_params.proofs.AtComponents.{lift_of_numbers, two_of_numbers, log_e_of_numbers, alpha_root_at, covolume_at, bare_attraction_at, attraction_at}
 use Rattle.pr_params.proofs.Attracted.{bare_within, attraction_within}
@@ -29,11 +29,11 @@ use Rattle.pr_params.proofs.Sizes.{where_none, not_less}
 -- ---- the co-volume and the root of alpha
 pub covolume_within : (c : Case) (lift i : ℕ) → i < c.n → IsBetween (covolume_ends c lift i) (2 ^ (56 + lift)) (covolume c i)
 covolume_within c lift i h =
-    quotient_within (389 * c.p * critical_temperature c i) (5000 * critical_pressure c i * c.t) (2 ^ (56 + lift)) (den_positive_at c i h)
+    quotient_within (covolume_num c i) (covolume_den c i) (2 ^ (56 + lift)) (den_positive_at c i h)
 
 pub alpha_root_within : (c : Case) (x : Instance) (t : Ends) (i : ℕ) → IsBetween t (2 ^ 48) (x.temperature_root i) →
     IsBetween (alpha_root_ends c t i) (2 ^ 48) (alpha_root c x i)
-alpha_root_within c x t i h = line_within (kappa_of (acentric_factor c i)) t (x.temperature_root i) (2 ^ 48) (10 ^ 13) (lit< tt) h
+alpha_root_within c x t i h = line_within (kappa_of c.edition (acentric_factor c i)) t (x.temperature_root i) (2 ^ 48) kappa_scale (lit< tt) h
 
 -- ---- the root of two critical pressures
 -- it is positive and lies between its ends

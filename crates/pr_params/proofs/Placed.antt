@@ -4,25 +4,25 @@ use Rattle.std.proofs.Math.Nat.{mul-le-mul}
 use Rattle.std.specs.Int.{int_min, int_max}
 use Rattle.log_laws.specs.Whole.{floor_over, ceil_over, ceil_quotient}
 use Rattle.log_laws.proofs.Exports.{ceil_over-pos}
-use Rattle.fix_interval.specs.Interval.{ends}
+use Rattle.log_laws.specs.Interval.{ends}
 use Rattle.case_types.specs.declared.cases.Case.{Case}
-use Rattle.case_types.specs.CaseWords.{critical_temperature, critical_pressure, acentric_factor}
-use Rattle.case_types.specs.Numbers.{lift_of}
-use Rattle.case_types.specs.Parameters.{kappa_of}
+use Rattle.case_types.specs.Energy.Components.{acentric_factor}
+use Rattle.case_types.specs.Arithmetic.Numbers.{lift_of}
+use Rattle.case_types.specs.Energy.Parameters.{kappa_of, kappa_scale, covolume_num, covolume_den}
 use Rattle.pr_params.specs.Entries.{temperature_entry, alpha_entry, covolume_entry, bare_entry, attraction_entry, ratio_entry}
 use Rattle.pr_params.proofs.Components.{den_positive_at}
 
 -- ---- of a component
 pub covolume_made : (c : Case) (i num den lift : ℕ) (lo hi : ℤ) → i < c.n → lift ≡ lift_of c →
-    num ≡ 389 * c.p * critical_temperature c i → den ≡ 5000 * critical_pressure c i * c.t →
+    num ≡ covolume_num c i → den ≡ covolume_den c i →
     lo ≡ pos (num * 2 ^ (56 + lift) / den) → hi ≡ pos (ceil_quotient (num * 2 ^ (56 + lift)) den) → ends lo hi ≡ covolume_entry c i
 unfolding covolume_entry
 covolume_made c i num den lift lo hi h l n d low high =
-    rw (low, high, n, d, ← ceil_over-pos (389 * c.p * critical_temperature c i * 2 ^ (56 + lift)) (5000 * critical_pressure c i * c.t) (den_positive_at c i h), l) refl
+    rw (low, high, n, d, ← ceil_over-pos (covolume_num c i * 2 ^ (56 + lift)) (covolume_den c i) (den_positive_at c i h), l) refl
 
-pub alpha_made : (c : Case) (i : ℕ) (kappa lo hi rlo rhi : ℤ) → kappa ≡ kappa_of (acentric_factor c i) → ends rlo rhi ≡ temperature_entry c i →
-    lo ≡ pos (2 ^ 48) +ℤ floor_over (int_min (kappa *ℤ (pos (2 ^ 48) -ℤ rlo)) (kappa *ℤ (pos (2 ^ 48) -ℤ rhi))) (10 ^ 13) →
-    hi ≡ pos (2 ^ 48) +ℤ ceil_over (int_max (kappa *ℤ (pos (2 ^ 48) -ℤ rlo)) (kappa *ℤ (pos (2 ^ 48) -ℤ rhi))) (10 ^ 13) →
+pub alpha_made : (c : Case) (i : ℕ) (kappa lo hi rlo rhi : ℤ) → kappa ≡ kappa_of c.edition (acentric_factor c i) → ends rlo rhi ≡ temperature_entry c i →
+    lo ≡ pos (2 ^ 48) +ℤ floor_over (int_min (kappa *ℤ (pos (2 ^ 48) -ℤ rlo)) (kappa *ℤ (pos (2 ^ 48) -ℤ rhi))) kappa_scale →
+    hi ≡ pos (2 ^ 48) +ℤ ceil_over (int_max (kappa *ℤ (pos (2 ^ 48) -ℤ rlo)) (kappa *ℤ (pos (2 ^ 48) -ℤ rhi))) kappa_scale →
     ends lo hi ≡ alpha_entry c i
 unfolding alpha_entry
 alpha_made c i kappa lo hi rlo rhi k r low high = rw (low, high, k, ← r) refl

@@ -6,15 +6,14 @@ use Rattle.std.proofs.lemmas.Int.{ints}
 use Rattle.std.proofs.lemmas.List.{get_or-map}
 use Rattle.log_laws.specs.Between.{Ends}
 use Rattle.log_laws.specs.Roots.{root_ends, root_floor, ceiling_from}
-use Rattle.root_enclose.proofs.RootDigits.{floor_root_is}
-use Rattle.root_enclose.proofs.Squares.{IsFloorRootOver, floor_root_over, ceiling_fits}
+use Rattle.root_enclose.proofs.Exports.{floor_root_is, IsFloorRootOver, floor_root_over, ceiling_fits}
 use Rattle.case_types.specs.declared.cases.Case.{Case}
-use Rattle.case_types.specs.CaseWords.{critical_pressure}
-use Rattle.case_types.specs.Instances.{pair_place}
-use Rattle.case_types.specs.Numbers.{pressure_root_ends, enclosures_of}
-use Rattle.case_types.specs.Tables.{ends_at, no_ends}
-use Rattle.fix_interval.specs.declared.iv.Iv.{Iv}
-use Rattle.fix_interval.specs.Interval.{ends_of}
+use Rattle.case_types.specs.Energy.Components.{critical_pressure}
+use Rattle.case_types.specs.Energy.Instances.{pair_place}
+use Rattle.case_types.specs.Arithmetic.Numbers.{pressure_root_ends, enclosures_of}
+use Rattle.case_types.specs.Arithmetic.Tables.{ends_at, no_ends}
+use Rattle.log_laws.specs.declared.iv.Iv.{Iv}
+use Rattle.log_laws.specs.Interval.{ends_of}
 use Rattle.pr_params.specs.Entries.{pressure_entry, ends_of_all}
 use Rattle.pr_params.proofs.Components.{component_at}
 use Rattle.pr_params.proofs.Faulted.{lt_yes, lt_no}

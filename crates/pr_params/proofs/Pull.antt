@@ -5,8 +5,8 @@ use Rattle.std.proofs.lemmas.Int.{ints}
 use borrow.Author.Differences.{up, down, at_most_in, le_out, product_is, neg_is}
 use Rattle.log_laws.specs.Fraction.{Fraction, IsFraction, IsAtMost, IsSame, whole, negated, product_of, quotient_of}
 use Rattle.log_laws.specs.LogSum.{AtLeast, AtMost, ratio, IsPositive, times_log, scaled}
-use Rattle.log_laws.proofs.Exports.{at_most_is_opposite, IsParts, parts_self, parts_ratio, parts_one, parts_product, parts_negated, parts_respelled, parts_sum_at, parts_of_at_most, same_of_parts, product_pos, at_least_scales, one, lowered, bounds_ordered, at_least-same, by_ratio, order_of_ratios, parts_quotient, quotient_of_parts}
-use Rattle.case_types.specs.Divisions.{bits, log_of, minus_log_of}
+use Rattle.log_laws.proofs.Exports.{at_most_is_opposite, IsParts, parts_self, parts_ratio, parts_one, parts_product, parts_negated, parts_respelled, parts_sum_at, parts_of_at_most, same_of_parts, product_pos, at_least_scales, fraction_one, lowered, bounds_ordered, at_least-same, by_ratio, order_of_ratios, parts_quotient, quotient_of_parts, by_natural}
+use Rattle.case_types.specs.Energy.Divisions.{bits, log_of, minus_log_of}
 
 -- ---- one logarithm scaled
 -- k * f is g
@@ -28,11 +28,6 @@ not_negative {f} {u} {d} p = made f.num f.den p.d_pos p.is
     made : (z : ℤ) (F : ℕ) → 0 < d → up z * d + 0 * F ≡ down z * d + u * F → pos 0 ≤ℤ z
     made (pos n) F h e = at_most_in (pos 0) (pos n) (omega arith)
     made (negsuc n) F h e = absurd (omega arith)
-
--- a whole number that isn't negative is natural
-pub by_natural : (P : ℤ → Type 0) (z : ℤ) → pos 0 ≤ℤ z → ((n : ℕ) → P (pos n)) → P z
-by_natural P (pos n) h k = k n
-by_natural P (negsuc n) h k = absurd (omega (arith, ints, h))
 
 -- ---- whole numbers
 -- A / B at most G / 2 ^ 40 and s at least sl / 2 ^ 60
@@ -79,14 +74,14 @@ one_part : (z : ℤ) → (down z ≡ 0) ⊎ (up z ≡ 0)
 one_part (pos n) = inl refl
 one_part (negsuc n) = inr refl
 
-pub times_minus_one : (f : Fraction) → IsFraction f → IsSame (product_of f (negated one)) (negated f)
+pub times_minus_one : (f : Fraction) → IsFraction f → IsSame (product_of f (negated fraction_one)) (negated f)
 times_minus_one f h =
     same_of_parts (parts_product (parts_self f.num f.den h) (parts_negated parts_one)) (parts_negated (parts_self f.num f.den h)) (sides (up f.num) (down f.num) f.den)
   where
     sides : (u v d : ℕ) → (u * 0 + v * 1) * d + u * (d * 1) ≡ v * (d * 1) + (u * 1 + v * 0) * d
     sides u v d = omega arith
 
-times_one : (f : Fraction) → IsFraction f → IsSame (product_of f one) f
+times_one : (f : Fraction) → IsFraction f → IsSame (product_of f fraction_one) f
 times_one f h =
     same_of_parts (parts_product (parts_self f.num f.den h) parts_one) (parts_self f.num f.den h) (sides (up f.num) (down f.num) f.den)
   where
@@ -123,7 +118,7 @@ module _ (a A : Fraction) (sn sd bn bd : ℕ) (ha : IsFraction a) (psn : 0 < sn)
           let f : IsParts k kn 0 kd = parts_respelled factor factor.d_pos (rw e (omega arith)) in
           let h = parts_of_at_most ratio_parts (parts_self (pos G) (2 ^ 40) (lit< tt)) share in
           let o = scaled_below kn kd L C sl G some (factor_below (up a.num) a.den bn bd sn sd sl G (let h' = rw e at h in omega (arith, h')) root) room in
-          times_scaled k (negated one) (negated k) A (bits (neg_ℤ (pos C))) f.den_pos f.den_pos (times_minus_one k f.den_pos) pA
+          times_scaled k (negated fraction_one) (negated k) A (bits (neg_ℤ (pos C))) f.den_pos f.den_pos (times_minus_one k f.den_pos) pA
           (lowered (scaled k (minus_log_of A)) (product_of k (bits (neg_ℤ (pos L)))) (bits (neg_ℤ (pos C)))
           (parts_product f (parts_negated (parts_self (pos L) (2 ^ 40) (lit< tt)))) (parts_negated (parts_self (pos C) (2 ^ 40) (lit< tt)))
           (last kn kd L C o)
@@ -133,7 +128,7 @@ module _ (a A : Fraction) (sn sd bn bd : ℕ) (ha : IsFraction a) (psn : 0 < sn)
       shrunk e =
           let kn = down a.num * sd * bd in
           let f : IsParts (negated k) kn 0 kd = parts_respelled (parts_negated factor) factor.d_pos (rw e (omega arith)) in
-          times_scaled (negated k) one (negated k) A (bits (neg_ℤ (pos C))) f.den_pos f.den_pos (times_one (negated k) f.den_pos) pA
+          times_scaled (negated k) fraction_one (negated k) A (bits (neg_ℤ (pos C))) f.den_pos f.den_pos (times_one (negated k) f.den_pos) pA
           (lowered (scaled (negated k) (log_of A)) (product_of (negated k) (bits (pos 0))) (bits (neg_ℤ (pos C)))
           (parts_product f (parts_self (pos 0) (2 ^ 40) (lit< tt))) (parts_negated (parts_self (pos C) (2 ^ 40) (lit< tt)))
           (lost kn kd C)
@@ -148,7 +143,7 @@ module _ (a A : Fraction) (sn sd bn bd : ℕ) (ha : IsFraction a) (psn : 0 < sn)
       let f : IsParts k kn 0 kd = parts_respelled factor factor.d_pos (rw e (omega arith)) in
       let h' = rw e at h in
       let o = scaled_above kn kd L (up c) (down c) sh G some (factor_above (up a.num) a.den bn bd sn sd sh G (omega (arith, h')) root) room in
-      times_scaled k one (negated (negated k)) A (bits c) f.den_pos f.den_pos (twice k f.den_pos) pA
+      times_scaled k fraction_one (negated (negated k)) A (bits c) f.den_pos f.den_pos (twice k f.den_pos) pA
       (lowered (scaled k (log_of A)) (product_of k (bits (pos L))) (bits c)
       (parts_product f (parts_self (pos L) (2 ^ 40) (lit< tt))) (parts_self c (2 ^ 40) (lit< tt))
       (last kn kd L (up c) (down c) o)
@@ -162,7 +157,7 @@ module _ (a A : Fraction) (sn sd bn bd : ℕ) (ha : IsFraction a) (psn : 0 < sn)
       last : (kn d L cu cd : ℕ) → cu * d ≤ kn * L + cd * d → cu * (d * 2 ^ 40) + (kn * 0 + 0 * L) * 2 ^ 40 ≤ (kn * L + 0 * 0) * 2 ^ 40 + cd * (d * 2 ^ 40)
       last kn d L cu cd l = omega arith
 
-      twice : (f : Fraction) → IsFraction f → IsSame (product_of f one) (negated (negated f))
+      twice : (f : Fraction) → IsFraction f → IsSame (product_of f fraction_one) (negated (negated f))
       twice f h =
           same_of_parts (parts_product (parts_self f.num f.den h) parts_one) (parts_negated (parts_negated (parts_self f.num f.den h))) (sides (up f.num) (down f.num) f.den)
         where

@@ -3,7 +3,7 @@ use Rattle.std.proofs.Common.{ℕ, ◌+◌, ◌*◌, ◌/◌, ◌^◌, ◌<◌, 
 use Rattle.std.proofs.lemmas.Nat.{pow-add, pow_pos}
 use Rattle.std.proofs.Math.Nat.{mul-le-mul_left, mul-le-mul_right, le_of_mul-le-mul_right, div-mul-le_self}
 use Rattle.log_laws.specs.Whole.{ceil_quotient}
-use Rattle.pr_params.proofs.Attracted.{le-ceiling}
+use Rattle.log_laws.proofs.Exports.{le-ceiling}
 
 -- a floor of ends on the low side is at most the quotient
 pub quotient_above : (m n b lift au ad bu bd : ℕ) → m ≤ n → n * ad ≤ au * 2 ^ (49 + lift) → bu * 2 ^ (56 + lift) ≤ b * bd →

@@ -5,15 +5,14 @@ use Rattle.std.proofs.Math.Nat.{mul-le-mul, div-lt_iff_lt-mul}
 use Rattle.log_laws.specs.Between.{Ends}
 use Rattle.log_laws.specs.LogE.{log_e_ends}
 use Rattle.log_laws.specs.Roots.{root_ends, root_floor, ceiling_from}
-use Rattle.root_enclose.proofs.RootDigits.{floor_root_is}
-use Rattle.root_enclose.proofs.Squares.{IsFloorRootOver, floor_root_over, floor-le-ceiling, ceiling_covers}
+use Rattle.root_enclose.proofs.Exports.{floor_root_is, IsFloorRootOver, floor_root_over, floor-le-ceiling, ceiling_covers}
 use Rattle.log_enclose.proofs.Exports.{holds_log_e_ends}
 use Rattle.case_types.specs.declared.cases.Case.{Case}
-use Rattle.case_types.specs.CaseWords.{critical_temperature, critical_pressure}
-use Rattle.case_types.specs.Instances.{HoldsRoot, AreRight, pair_place}
-use Rattle.case_types.specs.Numbers.{enclosures_of, pressure_root_ends}
-use Rattle.case_types.specs.Tables.{ends_at, no_ends}
-use Rattle.pr_params.proofs.Below.{get_or-list_below}
+use Rattle.case_types.specs.Energy.Components.{critical_temperature, critical_pressure}
+use Rattle.case_types.specs.Energy.Instances.{HoldsRoot, AreRight, pair_place}
+use Rattle.case_types.specs.Arithmetic.Numbers.{enclosures_of, pressure_root_ends}
+use Rattle.case_types.specs.Arithmetic.Tables.{ends_at, no_ends}
+use Rattle.log_laws.proofs.Exports.{get_or-list_below}
 use Rattle.pr_params.proofs.Components.{component_at}
 use Rattle.pr_params.proofs.Faulted.{lt_yes}
 

@@ -1,25 +1,22 @@
 -- How large the numbers of a case are over a box: what the bounds of energies need to know.
-use Rattle.std.proofs.Common.{ℕ, zero, suc, ◌+◌, ◌*◌, ◌^◌, ◌<◌, ◌≤◌, ◌≡◌, nat_le, IsTrue, refl, ap, ◌∙◌, arith, lit<, List, ℤ, pos, ◌*ℤ◌, ◌≤ℤ◌, slice_index}
-use Rattle.std.proofs.Math.Nat.{le_of_mul-le-mul_right}
+use Rattle.std.proofs.Common.{ℕ, zero, suc, ◌+◌, ◌*◌, ◌^◌, ◌<◌, ◌≤◌, ◌≡◌, nat_le, IsTrue, refl, ap, ◌∙◌, arith, lit<, List, pos, ◌*ℤ◌, ◌≤ℤ◌, slice_index}
 use Rattle.std.proofs.lemmas.Int.{ints}
 use Rattle.std.proofs.lemmas.Nat.{pow-add}
-use borrow.Author.Differences.{le_out, at_most_in, product_is}
+use borrow.Author.Differences.{le_out}
 use Rattle.log_laws.specs.Between.{Ends, IsBetween}
 use Rattle.log_laws.specs.Fraction.{Fraction, IsFraction, product_of}
 use Rattle.log_laws.specs.LogSum.{IsPositive}
-use Rattle.log_laws.proofs.Exports.{product_pos, ≤ℤ_trans, all_below-at}
+use Rattle.log_laws.proofs.Exports.{product_pos, le_of_mul-le_ℤ, ≤ℤ_trans, all_below-at, by_natural}
 use Rattle.case_types.specs.declared.cases.Case.{Case}
-use Rattle.case_types.specs.declared.cells.BoxX.{BoxX}
-use Rattle.case_types.specs.Bounds.{Box, covolume_range}
-use Rattle.case_types.specs.Numbers.{Numbers, numbers_of}
+use Rattle.case_types.specs.Arithmetic.Bounds.{Box, covolume_range}
+use Rattle.case_types.specs.Arithmetic.Numbers.{Numbers, numbers_of}
 use Rattle.case_types.specs.Ranges.{is_each_up_to, is_each_at_most}
-use Rattle.case_types.specs.Divisions.{State, moles, mole_fraction, mean_attraction}
-use Rattle.case_types.specs.Holding.{HoldsParameters}
-use Rattle.case_types.specs.Instances.{Instance}
-use Rattle.case_types.specs.Parameters.{attraction}
+use Rattle.case_types.specs.Energy.Divisions.{State, moles, mole_fraction, mean_attraction}
+use Rattle.case_types.specs.Arithmetic.Holding.{HoldsParameters}
+use Rattle.case_types.specs.Energy.Instances.{Instance}
+use Rattle.case_types.specs.Energy.Parameters.{attraction}
 use Rattle.log_laws.specs.Sums.{fraction_sum_below}
 use Rattle.pr_params.proofs.Argument.{positive_between}
-use Rattle.pr_params.proofs.Pull.{by_natural}
 use Rattle.pr_params.proofs.Lambda.{two_ends}
 
 -- the ends of the logarithm of e
@@ -60,26 +57,10 @@ each_at_most n xs ys h i l = at_most (slice_index xs i) (slice_index ys i) (all_
     at_most : (a b : ℕ) → IsTrue (nat_le a b) → a ≤ b
     at_most a b h = grind (arith, h)
 
--- the fractions of a box are at most one
-pub fraction_b : (x : BoxX) (i : ℕ) → i < 4 → slice_index x.b i ≤ 2 ^ 40
-fraction_b x i h = each_up_to 4 x.b (2 ^ 40) x.inside i h
-
-pub fraction_a : (x : BoxX) (i : ℕ) → i < 4 → slice_index x.a i ≤ 2 ^ 40
-fraction_a x i h =
-    let most = fraction_b x i h in
-    let below = each_at_most 4 x.a x.b x.ordered i h in
-    omega (arith, most, below)
-
 -- ---- ends in order
--- a factor that is not 0 is taken off both sides
-pub cancelled : (a b : ℤ) (n : ℕ) → 0 < n → (a *ℤ pos n) ≤ℤ (b *ℤ pos n) → a ≤ℤ b
-cancelled a b n h l =
-    let q = le_out (a *ℤ pos n) (b *ℤ pos n) l in
-    at_most_in a b (le_of_mul-le-mul_right {k = n} (let x = product_is a (pos n) in let y = product_is b (pos n) in omega (arith, q, x, y)) h)
-
 -- ends with a fraction between them
 pub ends_ordered : (v : Ends) (scale : ℕ) (f : Fraction) → IsBetween v scale f → v.lo ≤ℤ v.hi
-ends_ordered v scale f b = cancelled v.lo v.hi f.den b.is_fraction (≤ℤ_trans (v.lo *ℤ pos f.den) (f.num *ℤ pos scale) (v.hi *ℤ pos f.den) b.above b.below)
+ends_ordered v scale f b = le_of_mul-le_ℤ v.lo v.hi f.den b.is_fraction (≤ℤ_trans (v.lo *ℤ pos f.den) (f.num *ℤ pos scale) (v.hi *ℤ pos f.den) b.above b.below)
 
 -- the ends of what lies between them, apart
 pub between_apart : (v : Ends) (scale : ℕ) (f : Fraction) → IsBetween v scale f → IsBetween (record { lo = v.lo; hi = v.hi }) scale f

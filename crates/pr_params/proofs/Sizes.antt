@@ -6,7 +6,7 @@ use Rattle.std.proofs.lemmas.Nat.{pow-add, le-div}
 use Rattle.std.proofs.Math.Nat.{mul-le-mul_left, mul-le-mul_right, div-le_of_le-mul, div-lt_iff_lt-mul, div-mul-le_self}
 use Rattle.log_laws.specs.Whole.{ceil_quotient}
 use Rattle.case_types.specs.declared.cases.ParamFault.{ParamFault}
-use Rattle.case_types.specs.Faults.{or_else, fault_where}
+use Rattle.case_types.specs.Arithmetic.Faults.{or_else, fault_where}
 use Rattle.pr_params.proofs.Below.{or_else_none}
 
 -- a fault that isn't there wasn't met
@@ -32,13 +32,6 @@ ceiling_high num den lift some h =
     let p = raised_low num den lift h in
     let q : (num * 2 ^ (56 + lift) + (den - 1)) / den < 2 ^ 61 + 1 = (div-lt_iff_lt-mul some).1 (omega (arith, p, some)) in
     omega (arith, q)
-
-pub floor-le-ceiling : (n den : ℕ) → 0 < den → n / den ≤ ceil_quotient n den
-floor-le-ceiling n den some = le-div (n / den) (n + (den - 1)) den some (let p = div-mul-le_self n den in omega (arith, p))
-
-pub ceiling_at_most : (n d m : ℕ) → 0 < d → n ≤ m * d → ceil_quotient n d ≤ m
-ceiling_at_most n d m some h =
-    let q : (n + (d - 1)) / d < m + 1 = (div-lt_iff_lt-mul some).1 (omega (arith, h, some)) in omega (arith, q)
 
 -- a floor over more is at most a ceiling over less
 pub quotients_ordered : (n d e : ℕ) → 0 < d → d ≤ e → n / e ≤ ceil_quotient n d

@@ -4,12 +4,12 @@ use Rattle.std.proofs.lemmas.Bool.{cases_lt}
 use Rattle.std.proofs.lemmas.List.{take-map, get_or-map, length-map}
 use Rattle.log_laws.specs.Between.{Ends}
 use Rattle.log_laws.specs.Sums.{list_below}
-use Rattle.fix_interval.specs.declared.iv.Iv.{Iv}
-use Rattle.fix_interval.specs.Interval.{ends_of}
+use Rattle.log_laws.specs.declared.iv.Iv.{Iv}
+use Rattle.log_laws.specs.Interval.{ends_of}
 use Rattle.log_laws.proofs.Exports.{and_false}
-use Rattle.case_types.specs.Numbers.{table_below}
-use Rattle.case_types.specs.Printed.{ends_in}
-use Rattle.case_types.specs.Tables.{no_ends, ends_of_pair}
+use Rattle.case_types.specs.Arithmetic.Numbers.{table_below}
+use Rattle.case_types.specs.Energy.Printed.{ends_in}
+use Rattle.case_types.specs.Arithmetic.Tables.{no_ends, ends_of_pair}
 use Rattle.pr_params.specs.Entries.{four, live_ends, live_pair, ends_of_all, ends_of_table, filled, filled_table}
 use Rattle.pr_params.specs.Kept.{IsVacant, IsVacantTable}
 use Rattle.pr_params.proofs.Faulted.{lt_yes, lt_no}

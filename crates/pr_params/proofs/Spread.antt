@@ -1,13 +1,18 @@
 -- Whole parts that lie between ends of a box, and the sums that bound their means.
-use Rattle.std.proofs.Common.{◌≡◌, ℕ, zero, suc, ◌+◌, ◌*◌, ◌<◌, ◌≤◌, refl, arith, ℤ, pos, negsuc, ◌+ℤ◌, ◌*ℤ◌, ◌≤ℤ◌, ◌<ℤ◌, Bool, true, false, cond, ◌^◌, unsigned_abs, to_z, of_z, lit<}
+use Rattle.std.proofs.Common.{◌≡◌, ℕ, zero, suc, ◌+◌, ◌*◌, ◌<◌, ◌≤◌, refl, arith, ℤ, pos, negsuc, ◌+ℤ◌, ◌*ℤ◌, ◌≤ℤ◌, Bool, true, false, cond, ◌^◌, to_z, of_z, lit<}
 use Rattle.std.specs.Prelude.{int_lt}
 use Rattle.std.specs.Int.{int_min, int_max, w128}
-use Rattle.std.proofs.lemmas.Int.{ints, clamps}
-use Rattle.std.proofs.Math.Nat.{mul-le-mul_left, mul-le-mul_right, div-le_of_le-mul}
+use Rattle.std.proofs.lemmas.Int.{ints}
+use Rattle.std.proofs.Math.Nat.{mul-le-mul_right, div-le_of_le-mul}
 use Rattle.log_laws.specs.Sums.{sum_below, int_sum_below}
-use Rattle.log_laws.proofs.Exports.{up-mul, down-mul, mul-le_ℤ, mul-add_ℤ, scale_scale, ≤ℤ_trans, back, ceil_over-pos, sum-more}
+use Rattle.log_laws.proofs.Exports.{mul-le_ℤ, mul-add_ℤ, back, ceil_over-pos, sum-more}
 use Rattle.log_laws.specs.Whole.{floor_div, ceil_div, ceil_quotient}
-use Rattle.pr_params.proofs.Sizes.{ceiling_at_most}
+use Rattle.log_laws.specs.Interval.{ends_of}
+use Rattle.log_laws.specs.declared.iv.Iv.{Iv}
+use Rattle.pr_params.specs.declared.bounds.Bound.{Bound}
+use Rattle.pr_params.specs.declared.bounds.Bound.TheVariants.{AtLeast, AtMost}
+use Rattle.pr_params.specs.Rounding.{rounded_on, end_on}
+use Rattle.log_laws.proofs.Exports.{ceiling_at_most}
 
 -- ---- the lesser and the greater
 -- a fact of two numbers holds of the lesser, and of the greater
@@ -42,60 +47,8 @@ above_all (suc n) p z w h =
     let here = mul-le_ℤ (pos (z n)) w (p n) (h n (omega arith)) in
     omega (arith, ints, before, here, mul-add_ℤ w (pos (sum_below n p)) (pos (p n)))
 
--- a negative number turns the order
-turned : (n x y : ℕ) → x ≤ y → (negsuc n *ℤ pos y) ≤ℤ (negsuc n *ℤ pos x)
-turned n x y h =
-    let e = mul-le-mul_left (suc n) h in
-    omega (arith, ints, e, up-mul (negsuc n) (pos x), down-mul (negsuc n) (pos x), up-mul (negsuc n) (pos y), down-mul (negsuc n) (pos y))
-
--- ---- a part q between a and b of m, times a number t
-pub corner_least : (t : ℤ) (a b q m : ℕ) → a * m ≤ q → q ≤ b * m → (int_min (t *ℤ pos a) (t *ℤ pos b) *ℤ pos m) ≤ℤ (t *ℤ pos q)
-corner_least (pos n) a b q m h k =
-    let e = mul-le-mul_left n h in
-    let l = mul-le_ℤ (int_min (pos n *ℤ pos a) (pos n *ℤ pos b)) (pos n *ℤ pos a) m (omega (arith, ints, clamps)) in
-    omega (arith, ints, l, e)
-corner_least (negsuc n) a b q m h k =
-    let l = mul-le_ℤ (int_min (negsuc n *ℤ pos a) (negsuc n *ℤ pos b)) (negsuc n *ℤ pos b) m (omega (arith, ints, clamps)) in
-    ≤ℤ_trans _ _ _ l (rw (scale_scale (negsuc n) b m) (turned n q (b * m) k))
-
-pub corner_greatest : (t : ℤ) (a b q m : ℕ) → a * m ≤ q → q ≤ b * m → (t *ℤ pos q) ≤ℤ (int_max (t *ℤ pos a) (t *ℤ pos b) *ℤ pos m)
-corner_greatest (pos n) a b q m h k =
-    let e = mul-le-mul_left n k in
-    let l = mul-le_ℤ (pos n *ℤ pos b) (int_max (pos n *ℤ pos a) (pos n *ℤ pos b)) m (omega (arith, ints, clamps)) in
-    omega (arith, ints, l, e)
-corner_greatest (negsuc n) a b q m h k =
-    let l = mul-le_ℤ (negsuc n *ℤ pos a) (int_max (negsuc n *ℤ pos a) (negsuc n *ℤ pos b)) m (omega (arith, ints, clamps)) in
-    ≤ℤ_trans _ _ _ (rw (scale_scale (negsuc n) a m) (turned n (a * m) q h)) l
-
--- ---- which corner it is
-pub least_below_zero : (t : ℤ) (a b : ℕ) → a ≤ b → t <ℤ pos 0 → t *ℤ pos b ≡ int_min (t *ℤ pos a) (t *ℤ pos b)
-least_below_zero (pos n) a b h k = absurd (omega (arith, ints, k))
-least_below_zero (negsuc n) a b h k = let e = turned n a b h in omega (arith, ints, clamps, e)
-
-pub least_from_zero : (t : ℤ) (a b : ℕ) → a ≤ b → pos 0 ≤ℤ t → t *ℤ pos a ≡ int_min (t *ℤ pos a) (t *ℤ pos b)
-least_from_zero (pos n) a b h k = let e = mul-le-mul_left n h in omega (arith, ints, clamps, e)
-least_from_zero (negsuc n) a b h k = absurd (omega (arith, ints, k))
-
-pub greatest_below_zero : (t : ℤ) (a b : ℕ) → a ≤ b → t <ℤ pos 0 → t *ℤ pos a ≡ int_max (t *ℤ pos a) (t *ℤ pos b)
-greatest_below_zero (pos n) a b h k = absurd (omega (arith, ints, k))
-greatest_below_zero (negsuc n) a b h k = let e = turned n a b h in omega (arith, ints, clamps, e)
-
-pub greatest_from_zero : (t : ℤ) (a b : ℕ) → a ≤ b → pos 0 ≤ℤ t → t *ℤ pos b ≡ int_max (t *ℤ pos a) (t *ℤ pos b)
-greatest_from_zero (pos n) a b h k = let e = mul-le-mul_left n h in omega (arith, ints, clamps, e)
-greatest_from_zero (negsuc n) a b h k = absurd (omega (arith, ints, k))
-
 -- ---- in 128 bits
 -- one number more in a sum that is kept in 128 bits
-pub grown : (i : ℕ) (f : ℕ → ℤ) (sum share : ℤ) → i < 4 → unsigned_abs sum ≤ i * 2 ^ 103 → unsigned_abs share ≤ 2 ^ 103 → sum ≡ int_sum_below i f → share ≡ f i
-    → (to_z w128 (of_z w128 (sum +ℤ to_z w128 (of_z w128 share))) ≡ int_sum_below (i + 1) f)
-    × (unsigned_abs (to_z w128 (of_z w128 (sum +ℤ to_z w128 (of_z w128 share)))) ≤ (i + 1) * 2 ^ 103)
-grown i f sum share few h k is at =
-    let read : to_z w128 (of_z w128 share) ≡ share = back share (omega (arith, k)) in
-    let all : to_z w128 (of_z w128 (sum +ℤ share)) ≡ sum +ℤ share = back (sum +ℤ share) (omega (arith, ints, h, k, few)) in (
-      rw (read, all, sum-more i f) (rw (is, at) refl),
-      rw (read, all) (omega (arith, ints, h, k)),
-    )
-
 pub added : (i : ℕ) (f : ℕ → ℤ) (sum share : ℤ) (w : ℕ) → i < 4 → w ≤ 2 ^ 103 → pos 0 ≤ℤ sum → sum ≤ℤ pos (i * w) → pos 0 ≤ℤ share → share ≤ℤ pos w
     → sum ≡ int_sum_below i f → share ≡ f i
     → (to_z w128 (of_z w128 (sum +ℤ to_z w128 (of_z w128 share))) ≡ int_sum_below (i + 1) f)
@@ -131,3 +84,18 @@ ceil_sizes (negsuc n) w h k = absurd (omega (arith, ints, h))
 pub share_at_most : (n : ℕ) (z : ℤ) → n ≤ 2 ^ 40 → pos 0 ≤ℤ z → (pos n *ℤ z) ≤ℤ (z *ℤ pos (2 ^ 40))
 share_at_most n (pos z) h k = let q = mul-le-mul_right z h in omega (arith, ints, q)
 share_at_most n (negsuc z) h k = absurd (omega (arith, ints, k))
+
+-- ---- on either side
+-- a rounded number that is neither negative nor large is neither
+pub sizes_on : (bound : Bound) (z : ℤ) (w : ℕ) → pos 0 ≤ℤ z → z ≤ℤ pos (w * 2 ^ 40) → (pos 0 ≤ℤ rounded_on bound z) × (rounded_on bound z ≤ℤ pos w)
+sizes_on AtLeast z w h k = floor_sizes z w h k
+sizes_on AtMost z w h k = ceil_sizes z w h k
+
+-- an end of an interval that isn't negative isn't
+pub end_positive : (bound : Bound) (v : Iv) → pos 0 ≤ℤ v.lo → pos 0 ≤ℤ end_on bound (ends_of v)
+end_positive AtLeast v h = h
+end_positive AtMost v h = let order = v.ordered in omega (arith, ints, h, order)
+
+pub end_most : (bound : Bound) (v : Iv) (limit : ℤ) → v.hi ≤ℤ limit → end_on bound (ends_of v) ≤ℤ limit
+end_most AtLeast v limit h = let order = v.ordered in omega (arith, ints, h, order)
+end_most AtMost v limit h = h

@@ -7,8 +7,7 @@ use Rattle.log_laws.specs.LogSum.{ratio}
 use Rattle.log_laws.specs.Sums.{sum_below, fraction_sum_below}
 use Rattle.log_laws.specs.Whole.{positive_part, negative_part}
 use Rattle.log_laws.proofs.Exports.{parts_self, parts_ratio, parts_sum, parts_product, at_most_of_parts, parts_of_at_most, product_pos}
-use Rattle.log_laws.proofs.Exports.{mul-le_ℤ, ≤ℤ_trans, scale_scale, scale_turned}
-use Rattle.pr_params.proofs.Sized.{cancelled}
+use Rattle.log_laws.proofs.Exports.{le_of_mul-le_ℤ, mul-le_ℤ, ≤ℤ_trans, scale_scale, scale_turned}
 
 -- z over the scale is at most f
 pub record IsOver (z scale : ℕ) (f : Fraction) : Type 0 where
@@ -89,7 +88,7 @@ over_less w z m s f hm h k =
     let c : ((w *ℤ pos m) *ℤ pos f.den) ≤ℤ (f.num *ℤ pos (m * s)) = ≤ℤ_trans _ _ _ q k.is in
     let l : ((w *ℤ pos f.den) *ℤ pos m) ≤ℤ ((f.num *ℤ pos s) *ℤ pos m) =
     rw (scale_turned w m f.den, scale_turned f.num m s) (rw (scale_scale w m f.den) at c) in
-    cancelled (w *ℤ pos f.den) (f.num *ℤ pos s) m hm l
+    le_of_mul-le_ℤ (w *ℤ pos f.den) (f.num *ℤ pos s) m hm l
 
 pub under_greater : (w : ℤ) (z m s : ℕ) (f : Fraction) → 0 < m → pos z ≤ℤ (w *ℤ pos m) → IsUnder z (m * s) f → (f.num *ℤ pos s) ≤ℤ (w *ℤ pos f.den)
 under_greater w z m s f hm h k =
@@ -97,4 +96,4 @@ under_greater w z m s f hm h k =
     let c : (f.num *ℤ pos (m * s)) ≤ℤ ((w *ℤ pos m) *ℤ pos f.den) = ≤ℤ_trans _ _ _ k.is q in
     let l : ((f.num *ℤ pos s) *ℤ pos m) ≤ℤ ((w *ℤ pos f.den) *ℤ pos m) =
     rw (scale_turned w m f.den, scale_turned f.num m s) (rw (scale_scale w m f.den) at c) in
-    cancelled (f.num *ℤ pos s) (w *ℤ pos f.den) m hm l
+    le_of_mul-le_ℤ (f.num *ℤ pos s) (w *ℤ pos f.den) m hm l

@@ -3,12 +3,12 @@ use Rattle.std.specs.Prelude.{ℕ, ◌^◌, List, [], ◌∷◌, ◌&&◌, cond,
 use Rattle.log_laws.specs.Between.{Ends}
 use Rattle.log_laws.specs.Roots.{root_ends}
 use Rattle.log_laws.specs.Whole.{ceil_div}
-use Rattle.fix_interval.specs.declared.iv.Iv.{Iv}
-use Rattle.fix_interval.specs.Interval.{ends_of}
+use Rattle.log_laws.specs.declared.iv.Iv.{Iv}
+use Rattle.log_laws.specs.Interval.{ends_of}
 use Rattle.case_types.specs.declared.cases.Case.{Case}
-use Rattle.case_types.specs.CaseWords.{critical_temperature}
-use Rattle.case_types.specs.Numbers.{lift_of, enclosures_of, covolume_ends, alpha_root_ends, pressure_root_of, bare_attraction_ends, attraction_ends}
-use Rattle.case_types.specs.Tables.{no_ends}
+use Rattle.case_types.specs.Energy.Components.{critical_temperature}
+use Rattle.case_types.specs.Arithmetic.Numbers.{lift_of, enclosures_of, covolume_ends, alpha_root_ends, pressure_root_of, bare_attraction_ends, attraction_ends}
+use Rattle.case_types.specs.Arithmetic.Tables.{no_ends}
 
 -- ---- of live components
 unfoldable pub temperature_entry : Case → ℕ → Ends

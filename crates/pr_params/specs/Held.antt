@@ -1,9 +1,9 @@
 -- The numbers that intervals hold.
 use Rattle.std.specs.Prelude.{ℕ, List, ℤ, map, take}
-use Rattle.fix_interval.specs.declared.iv.Iv.{Iv}
-use Rattle.fix_interval.specs.Interval.{ends_of}
-use Rattle.case_types.specs.Numbers.{Numbers}
-use Rattle.case_types.specs.Printed.{ends_in}
+use Rattle.log_laws.specs.declared.iv.Iv.{Iv}
+use Rattle.log_laws.specs.Interval.{ends_of}
+use Rattle.case_types.specs.Arithmetic.Numbers.{Numbers}
+use Rattle.case_types.specs.Energy.Printed.{ends_in}
 
 abbrev pub numbers_in : ℕ → ℕ → Iv → Iv → List Iv → List Iv → List (List Iv) → List (List Iv) → ℤ → Numbers
 numbers_in n lift two e ms bs hs «as» rho = record {

@@ -1,9 +1,9 @@
 -- What a `Params` keeps: numbers and a lift, and nothing of components that aren't live.
 use Rattle.std.specs.Prelude.{◌≡◌, ℕ, ◌<◌, ◌≤◌, List, IsTrue, IsFalse}
-use Rattle.fix_interval.specs.declared.iv.Iv.{Iv}
+use Rattle.log_laws.specs.declared.iv.Iv.{Iv}
 use Rattle.case_types.specs.declared.cases.Case.{Case}
-use Rattle.case_types.specs.Numbers.{Numbers, fits_lifted}
-use Rattle.case_types.specs.Tables.{ends_at, ends_of_pair, no_ends}
+use Rattle.case_types.specs.Arithmetic.Numbers.{Numbers, fits_lifted}
+use Rattle.case_types.specs.Arithmetic.Tables.{ends_at, ends_of_pair, no_ends}
 use Rattle.log_laws.specs.Sums.{all_below}
 use Rattle.pr_params.specs.declared.numbers.Params.{Params}
 use Rattle.pr_params.specs.Entries.{ends_of_all, ends_of_table}

@@ -1,72 +1,40 @@
 //! The mean attraction over a box.
 
 ghost use Rattle.std.specs.Prelude.{◌≡◌, ◌≤◌, ◌<◌, ◌^◌, pos, ◌*ℤ◌, ◌≤ℤ◌};
-ghost use Rattle.log_laws.specs.Sums.{int_sum_below};
-ghost use Rattle.log_laws.specs.Whole.{floor_div, ceil_div};
-ghost use Rattle.case_types.specs.Numbers.{numbers_of};
-ghost use Rattle.case_types.specs.Tables.{ends_of_pair};
-ghost use Rattle.case_types.specs.Bounds.{low_fraction, high_fraction, attraction_low as least_attraction, attraction_high as most_attraction};
-ghost use Rattle.pr_params.specs.Boxes.{box_of};
+ghost use Rattle.case_types.specs.Arithmetic.Numbers.{numbers_of};
+ghost use Rattle.case_types.specs.Arithmetic.Bounds.{box_of};
+ghost use Rattle.pr_params.specs.Rounding.{attraction_on, row_on};
 
-use crate::covolume_means::{floored, raised};
+use crate::bounds::Bound;
 use crate::numbers::Params;
 use crate::readers::attraction_of;
 use case_types::BoxX;
 
-/// The mean attraction at least, in `2^-(49+lift)`.
-pub fn attraction_low(params: &Params, x: &BoxX) -> i128
-    ensures value { result ≡ least_attraction (numbers_of params.now.case) (box_of x.now) }
+/// The mean attraction on a side, in `2^-(49+lift)`.
+pub fn attraction(params: &Params, x: &BoxX, bound: Bound) -> i128
+    ensures value { result ≡ attraction_on bound (numbers_of params.now.case) (box_of x.now) }
     ensures low { pos 0 ≤ℤ result }
     ensures high { result ≤ℤ pos (2 ^ 66) }
 {
     let mut sum = 0;
     for i in 0..params.case.n {
-        sum += share(x.a[i as usize], low_row(params, x, i));
+        sum += share(bound.fraction(x, i), row(params, x, bound, i));
     }
-    floored(sum)
+    bound.rounded(sum)
 }
 
-/// The mean attraction at most, in `2^-(49+lift)`.
-pub fn attraction_high(params: &Params, x: &BoxX) -> i128
-    ensures value { result ≡ most_attraction (numbers_of params.now.case) (box_of x.now) }
-    ensures low { pos 0 ≤ℤ result }
-    ensures high { result ≤ℤ pos (2 ^ 66) }
-{
-    let mut sum = 0;
-    for i in 0..params.case.n {
-        sum += share(x.b[i as usize], high_row(params, x, i));
-    }
-    raised(sum)
-}
-
-/// The mean attraction of a component with all, at least.
-fn low_row(params: &Params, x: &BoxX, i: u8) -> i128
+/// The mean attraction of a component with all, on a side.
+fn row(params: &Params, x: &BoxX, bound: Bound, i: u8) -> i128
     requires { i < params.now.case.n }
-    ensures value { result ≡ floor_div (int_sum_below params.now.case.n
-        (λ j. low_fraction (box_of x.now) j *ℤ (ends_of_pair (numbers_of params.now.case).attractions i j).lo)) (pos (2 ^ 40)) }
+    ensures value { result ≡ row_on bound (numbers_of params.now.case) (box_of x.now) i }
     ensures low { pos 0 ≤ℤ result }
     ensures high { result ≤ℤ pos (2 ^ 63) }
 {
     let mut sum = 0;
     for j in 0..params.case.n {
-        sum += share(x.a[j as usize], attraction_of(params, i, j).lo);
+        sum += share(bound.fraction(x, j), bound.end(attraction_of(params, i, j)));
     }
-    floored(sum)
-}
-
-/// The mean attraction of a component with all, at most.
-fn high_row(params: &Params, x: &BoxX, i: u8) -> i128
-    requires { i < params.now.case.n }
-    ensures value { result ≡ ceil_div (int_sum_below params.now.case.n
-        (λ j. high_fraction (box_of x.now) j *ℤ (ends_of_pair (numbers_of params.now.case).attractions i j).hi)) (pos (2 ^ 40)) }
-    ensures low { pos 0 ≤ℤ result }
-    ensures high { result ≤ℤ pos (2 ^ 63) }
-{
-    let mut sum = 0;
-    for j in 0..params.case.n {
-        sum += share(x.b[j as usize], attraction_of(params, i, j).hi);
-    }
-    raised(sum)
+    bound.rounded(sum)
 }
 
 /// A fraction in 2^-40 of a number.

@@ -4,7 +4,8 @@ ghost use Rattle.std.specs.Prelude.{◌≡◌, ◌+◌, ◌*◌, ◌/◌, ◌^�
 ghost use Rattle.log_laws.specs.Whole.{ceil_quotient};
 
 use crate::naturals::interval;
-use fix_interval::{Iv, ratio_ends, ratio_floor};
+use fix_interval::{ratio_ends, ratio_floor};
+use log_laws::Iv;
 
 /// 1 less an interaction in 1e-4, in 1e-4.
 fn rest_of(k: i32) -> u128

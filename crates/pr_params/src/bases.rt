@@ -2,15 +2,15 @@
 
 ghost use Rattle.std.specs.Prelude.{◌≡◌, ◌≤◌, ◌<◌, ◌^◌, pos, IsTrue, IfOk, IfErr, Some, None};
 ghost use Rattle.log_laws.specs.Sums.{greatest_below};
-ghost use Rattle.case_types.specs.Faults.{fault_of, covolumes_in_range, first_below, alpha_fault, attraction_fault};
-ghost use Rattle.case_types.specs.Numbers.{numbers_of};
-ghost use Rattle.fix_interval.specs.Interval.{ends, ends_of};
+ghost use Rattle.case_types.specs.Arithmetic.Faults.{fault_of, covolumes_in_range, first_below, alpha_fault, attraction_fault};
+ghost use Rattle.case_types.specs.Arithmetic.Numbers.{numbers_of};
+ghost use Rattle.log_laws.specs.Interval.{ends, ends_of};
 ghost use Rattle.pr_params.specs.Entries.{alpha_entry, covolume_entry, bare_entry, attraction_entry, ratio_entry, live_pair, filled, filled_table, four, ends_of_all, ends_of_table};
 
 use crate::attractions::{attraction_ceil, attraction_floor, ratio_of};
 use crate::naturals::{interval, natural_ends, none};
 use case_types::{Case, ParamFault, SLOTS};
-use fix_interval::Iv;
+use log_laws::Iv;
 
 /// What the attractions of a case are made of. The co-volumes and the roots of alpha are in their ranges.
 #[derive(Clone, Copy)]

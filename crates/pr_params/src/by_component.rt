@@ -1,7 +1,7 @@
 //! The numbers of each component.
 
 ghost use Rattle.std.specs.Prelude.{◌≡◌, ◌<◌};
-ghost use Rattle.fix_interval.specs.Interval.{ends_of};
+ghost use Rattle.log_laws.specs.Interval.{ends_of};
 ghost use Rattle.pr_params.specs.Entries.{temperature_entry, alpha_entry, covolume_entry, live_ends, filled, ends_of_all};
 
 use crate::alphas::{alpha_root, kappa, temperature_root};
@@ -10,7 +10,7 @@ use crate::lifted::Lifted;
 use crate::lifting::row_at;
 use crate::naturals::none;
 use case_types::{Case, SLOTS};
-use fix_interval::Iv;
+use log_laws::Iv;
 
 /// The roots of T/Tc and of alpha of each component, in 2^-48.
 pub fn roots(case: &Case) -> ([Iv; SLOTS], [Iv; SLOTS])
@@ -47,7 +47,7 @@ fn roots_of(case: &Case, i: usize) -> (Iv, Iv)
 {
     let row = row_at(case, i);
     let t = temperature_root(case.t, row.tc);
-    (t, alpha_root(kappa(row.w), t))
+    (t, alpha_root(kappa(&row, case.edition), t))
 }
 
 impl Lifted {
@@ -68,9 +68,8 @@ impl Lifted {
         ensures { ends_of result ≡ live_ends self.now.case.n (covolume_entry self.now.case) i }
     {
         if i < self.case.n as usize {
-            let row = row_at(&self.case, i);
-            let num = covolume_num(self.case.p, row.tc);
-            covolume(num, covolume_den(row.pc, self.case.t), self.lift)
+            let num = covolume_num(&self.case, i);
+            covolume(num, covolume_den(&self.case, i), self.lift)
         } else {
             none()
         }

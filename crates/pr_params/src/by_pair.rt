@@ -1,8 +1,8 @@
 //! The reduced attractions of pairs of components, without the roots of alpha.
 
 ghost use Rattle.std.specs.Prelude.{◌≡◌, ◌<◌, pos, neg_ℤ, ◌≤ℤ◌};
-ghost use Rattle.case_types.specs.CaseWords.{interaction};
-ghost use Rattle.fix_interval.specs.Interval.{ends_of};
+ghost use Rattle.case_types.specs.Energy.Components.{interaction};
+ghost use Rattle.log_laws.specs.Interval.{ends_of};
 ghost use Rattle.pr_params.specs.Entries.{bare_entry, live_pair, filled_table, four, ends_of_all, ends_of_table};
 
 use crate::attractions::{bare_attraction, cohesion_den, cohesion_num};
@@ -10,7 +10,7 @@ use crate::lifted::Lifted;
 use crate::lifting::row_at;
 use crate::naturals::{natural_ends, none};
 use case_types::{Case, SLOTS};
-use fix_interval::Iv;
+use log_laws::Iv;
 
 /// The interaction of two live components, in 1e-4.
 fn interaction_of(case: &Case, i: usize, j: usize) -> i32

@@ -2,31 +2,31 @@
 
 ghost use Rattle.std.specs.Prelude.{◌≡◌, ◌+◌, ◌*◌, ◌/◌, ◌^◌, ◌<◌, ◌≤◌, pos, ◌≤ℤ◌};
 ghost use Rattle.log_laws.specs.Whole.{ceil_quotient};
+ghost use Rattle.case_types.specs.Energy.Parameters.{covolume_num as num_of, covolume_den as den_of};
 
+use crate::lifting::row_at;
 use crate::naturals::interval;
-use fix_interval::{Iv, ratio_ends};
+use case_types::Case;
+use fix_interval::ratio_ends;
+use log_laws::Iv;
 
-/// The numerator of the reduced co-volume, `389*P*Tc`.
-pub fn covolume_num(p: u32, tc: u32) -> u128
-    requires p { p ≤ 100000000 }
-    requires tc { tc ≤ 1500000 }
-    ensures value { result ≡ 389 * p * tc }
+/// The numerator of the reduced co-volume of a live component, `389*P*Tc`.
+pub fn covolume_num(case: &Case, i: usize) -> u128
+    requires { i < case.now.n }
+    ensures value { result ≡ num_of case.now i }
     ensures small { result < 2 ^ 56 }
 {
-    389 * p as u128 * tc as u128
+    389 * case.p as u128 * row_at(case, i).tc as u128
 }
 
-/// The denominator of the reduced co-volume, `5000*Pc*T`.
-pub fn covolume_den(pc: u32, t: u32) -> u128
-    requires pc_low { 100000 ≤ pc }
-    requires pc_high { pc ≤ 50000000 }
-    requires t_low { 50000 ≤ t }
-    requires t_high { t ≤ 1500000 }
-    ensures value { result ≡ 5000 * pc * t }
+/// The denominator of the reduced co-volume of a live component, `5000*Pc*T`.
+pub fn covolume_den(case: &Case, i: usize) -> u128
+    requires { i < case.now.n }
+    ensures value { result ≡ den_of case.now i }
     ensures positive { 1 ≤ result }
     ensures small { result < 2 ^ 59 }
 {
-    5000 * pc as u128 * t as u128
+    5000 * row_at(case, i).pc as u128 * case.t as u128
 }
 
 /// The ends of `num / den`, in `2^-(56+lift)`.

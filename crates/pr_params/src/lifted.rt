@@ -1,16 +1,16 @@
 //! A case with its lift and the roots of its critical pressures.
 
 ghost use Rattle.std.specs.Prelude.{◌≡◌, ◌≤◌, ◌<◌, IsTrue};
-ghost use Rattle.case_types.specs.Faults.{covolumes_in_range};
-ghost use Rattle.case_types.specs.Instances.{pair_place};
-ghost use Rattle.case_types.specs.Numbers.{enclosures_of, lift_of, pressure_root_ends};
-ghost use Rattle.fix_interval.specs.Interval.{ends_of};
+ghost use Rattle.case_types.specs.Arithmetic.Faults.{covolumes_in_range};
+ghost use Rattle.case_types.specs.Energy.Instances.{pair_place};
+ghost use Rattle.case_types.specs.Arithmetic.Numbers.{enclosures_of, lift_of, pressure_root_ends};
+ghost use Rattle.log_laws.specs.Interval.{ends_of};
 ghost use Rattle.pr_params.specs.Entries.{pressure_entry, ends_of_all};
 
 use crate::lifting::{common_lift, row_at};
 use crate::naturals::{interval, none};
 use case_types::{Case, PAIRS};
-use fix_interval::Iv;
+use log_laws::Iv;
 use root_enclose::root_iv;
 
 /// A case whose largest reduced co-volume is in its range, with what the numbers of single pairs are made of.

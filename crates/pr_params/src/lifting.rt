@@ -2,10 +2,9 @@
 
 ghost use Rattle.std.specs.Prelude.{◌≡◌, ◌≤◌, ◌<◌, pos, neg_ℤ, ◌≤ℤ◌};
 ghost use Rattle.log_laws.specs.Sums.{all_below};
-ghost use Rattle.case_types.specs.CaseWords.{critical_temperature, critical_pressure, acentric_factor};
-ghost use Rattle.case_types.specs.Faults.{covolumes_in_range, covolumes_are_near};
-ghost use Rattle.case_types.specs.Numbers.{lift_of, fits_lifted};
-ghost use Rattle.pr_params.specs.Lifting.{is_tiny, is_near};
+ghost use Rattle.case_types.specs.Energy.Components.{critical_temperature, critical_pressure, acentric_factor};
+ghost use Rattle.case_types.specs.Arithmetic.Faults.{covolumes_in_range, covolumes_are_near, is_tiny, is_near};
+ghost use Rattle.case_types.specs.Arithmetic.Numbers.{lift_of, fits_lifted};
 
 use crate::covolumes::{covolume_den, covolume_num};
 use case_types::{Case, Row};
@@ -83,8 +82,7 @@ fn tiny(case: &Case, i: usize) -> bool
     requires { i < case.now.n }
     ensures { result ≡ is_tiny case.now i }
 {
-    let row = row_at(case, i);
-    covolume_num(case.p, row.tc) * (1 << 24) < covolume_den(row.pc, case.t)
+    covolume_num(case, i) * (1 << 24) < covolume_den(case, i)
 }
 
 /// Every reduced co-volume, raised by `lift` bits, is at most 32.
@@ -106,8 +104,7 @@ fn fits(case: &Case, lift: u32, i: usize) -> bool
     requires few { lift ≤ 29 }
     ensures { result ≡ fits_lifted case.now lift i }
 {
-    let row = row_at(case, i);
-    covolume_num(case.p, row.tc) * (1 << lift) <= 32 * covolume_den(row.pc, case.t)
+    covolume_num(case, i) * (1 << lift) <= 32 * covolume_den(case, i)
 }
 
 /// How many bits all reduced co-volumes can be raised by and stay at most 32, but 29 bits at most.

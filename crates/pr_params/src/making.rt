@@ -1,11 +1,11 @@
 //! From a case to its numbers.
 
 ghost use Rattle.std.specs.Prelude.{◌≡◌, Some, IfOk, IfErr};
-ghost use Rattle.case_types.specs.Faults.{fault_of};
-ghost use Rattle.case_types.specs.Holding.{HoldsParameters};
-ghost use Rattle.case_types.specs.Instances.{AreRight, Instance, IsInstance};
-ghost use Rattle.case_types.specs.Numbers.{numbers_of, enclosures_of};
-ghost use Rattle.case_types.specs.Printed.{enclosures_in};
+ghost use Rattle.case_types.specs.Arithmetic.Faults.{fault_of};
+ghost use Rattle.case_types.specs.Arithmetic.Holding.{HoldsParameters};
+ghost use Rattle.case_types.specs.Energy.Instances.{AreRight, Instance, IsInstance};
+ghost use Rattle.case_types.specs.Arithmetic.Numbers.{numbers_of, enclosures_of};
+ghost use Rattle.case_types.specs.Energy.Printed.{enclosures_in};
 ghost use Rattle.pr_params.specs.Kept.{numbers_kept, AreVacant, IsGreatestLift};
 
 use crate::bases::{Bases, check_alphas};

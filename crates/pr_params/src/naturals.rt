@@ -1,10 +1,10 @@
 //! Intervals of numbers that aren't negative.
 
 ghost use Rattle.std.specs.Prelude.{◌≡◌, ◌<◌, ◌≤◌, ◌^◌, pos, ◌≤ℤ◌};
-ghost use Rattle.case_types.specs.Tables.{no_ends};
-ghost use Rattle.fix_interval.specs.Interval.{ends, ends_of};
+ghost use Rattle.case_types.specs.Arithmetic.Tables.{no_ends};
+ghost use Rattle.log_laws.specs.Interval.{ends, ends_of};
 
-use fix_interval::Iv;
+use log_laws::Iv;
 
 /// The interval of two ends that aren't negative.
 pub fn interval(lo: u128, hi: u128) -> Iv

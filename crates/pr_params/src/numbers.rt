@@ -1,13 +1,13 @@
 //! The numbers of a case.
 
 ghost use Rattle.std.specs.Prelude.{◌≡◌, None};
-ghost use Rattle.case_types.specs.Faults.{fault_of};
-ghost use Rattle.case_types.specs.Numbers.{numbers_of, enclosures_of};
-ghost use Rattle.case_types.specs.Printed.{enclosures_in};
+ghost use Rattle.case_types.specs.Arithmetic.Faults.{fault_of};
+ghost use Rattle.case_types.specs.Arithmetic.Numbers.{numbers_of, enclosures_of};
+ghost use Rattle.case_types.specs.Energy.Printed.{enclosures_in};
 ghost use Rattle.pr_params.specs.Held.{numbers_in};
 
 use case_types::{Case, PAIRS, SLOTS};
-use fix_interval::Iv;
+use log_laws::Iv;
 
 /// A case with its numbers. They are those of the definitions, and the case breaks no range of the parameters.
 ///

@@ -2,24 +2,25 @@
 
 ghost use Rattle.std.specs.Prelude.{◌≡◌, ◌≤◌, ◌<◌, ◌^◌, ◌+◌, ◌*◌, ◌/◌, pos, ◌*ℤ◌, ◌≤ℤ◌};
 ghost use Rattle.log_laws.specs.Whole.{floor_div, ceil_div, ceil_quotient};
-ghost use Rattle.fix_interval.specs.Interval.{ends_of};
+ghost use Rattle.log_laws.specs.Interval.{ends_of};
 ghost use Rattle.log_laws.specs.Between.{IsBetween};
 ghost use Rattle.log_laws.specs.Fraction.{IsAtMost};
-ghost use Rattle.case_types.specs.Numbers.{numbers_of, enclosures_of};
-ghost use Rattle.case_types.specs.Bounds.{covolume_range, ratio_high, ratio_low};
-ghost use Rattle.case_types.specs.Divisions.{State, moles, bits, mean_covolume};
-ghost use Rattle.case_types.specs.Holding.{IsInBox, attraction_ratio};
-ghost use Rattle.case_types.specs.Instances.{Instance, IsInstance};
-ghost use Rattle.pr_params.specs.Boxes.{box_of};
+ghost use Rattle.case_types.specs.Arithmetic.Numbers.{numbers_of, enclosures_of};
+ghost use Rattle.case_types.specs.Arithmetic.Bounds.{covolume_range, ratio_high, ratio_low};
+ghost use Rattle.case_types.specs.Energy.Divisions.{State, moles, bits, mean_covolume};
+ghost use Rattle.case_types.specs.Arithmetic.Holding.{IsInBox, attraction_ratio};
+ghost use Rattle.case_types.specs.Energy.Instances.{Instance, IsInstance};
+ghost use Rattle.case_types.specs.Arithmetic.Bounds.{box_of};
 
-use crate::attraction_means::{attraction_high, attraction_low};
+use crate::attraction_means::attraction;
+use crate::bounds::Bound;
 use crate::covolume_means::{
     greater, greatest_covolume, high_by_rest, least_covolume, lesser, low_by_rest,
 };
 use crate::numbers::Params;
 use crate::readers::greatest_of;
 use case_types::BoxX;
-use fix_interval::Iv;
+use log_laws::Iv;
 
 /// The range of the mean reduced co-volume over a box, in `2^-(56+lift)`.
 pub fn b_range(params: &Params, x: &BoxX) -> Iv
@@ -46,7 +47,7 @@ pub fn g_hi(params: &Params, x: &BoxX) -> i128
         IsInBox params.now.case.n (box_of x.now) f → 0 < moles params.now.case.n f →
         IsAtMost (attraction_ratio params.now.case i f) (bits result) }
 {
-    let ratio = ratio_up(attraction_high(params, x), b_range(params, x).lo);
+    let ratio = ratio_up(attraction(params, x, Bound::AtMost), b_range(params, x).lo);
     lesser(ratio, greatest_of(params))
 }
 
@@ -60,7 +61,7 @@ pub fn g_lo(params: &Params, x: &BoxX) -> i128
         IsInBox params.now.case.n (box_of x.now) f → 0 < moles params.now.case.n f →
         IsAtMost (bits result) (attraction_ratio params.now.case i f) }
 {
-    ratio_down(attraction_low(params, x), b_range(params, x).hi)
+    ratio_down(attraction(params, x, Bound::AtLeast), b_range(params, x).hi)
 }
 
 /// The ceiling of an attraction over a co-volume, in 2^-40, from ends in `2^-(49+lift)` and `2^-(56+lift)`.

@@ -1,13 +1,13 @@
 //! Single numbers of a case.
 
-ghost use Rattle.std.specs.Prelude.{◌≡◌, ◌≤◌, ◌<◌, ◌^◌, pos, ◌≤ℤ◌};
-ghost use Rattle.fix_interval.specs.Interval.{ends_of};
-ghost use Rattle.case_types.specs.Numbers.{numbers_of};
-ghost use Rattle.case_types.specs.Bounds.{covolume_scale};
-ghost use Rattle.case_types.specs.Tables.{ends_at, ends_of_pair};
+ghost use Rattle.std.specs.Prelude.{◌≡◌, ◌≤◌, ◌<◌, ◌*◌, ◌^◌, pos, ◌≤ℤ◌};
+ghost use Rattle.log_laws.specs.Interval.{ends_of};
+ghost use Rattle.case_types.specs.Arithmetic.Numbers.{numbers_of};
+ghost use Rattle.case_types.specs.Arithmetic.Bounds.{covolume_scale};
+ghost use Rattle.case_types.specs.Arithmetic.Tables.{ends_at, ends_of_pair};
 
 use crate::numbers::Params;
-use fix_interval::Iv;
+use log_laws::Iv;
 
 impl Params {
     /// How many bits the reduced co-volumes are raised by.
@@ -27,37 +27,31 @@ impl Params {
         1 << (16 + self.raised_by())
     }
 
-    /// The root of 2 at least, in 2^-60.
-    pub fn two_lo(&self) -> u128
-        ensures value { pos result ≡ (numbers_of self.now.case).root_two.lo }
-        ensures exact { result ≡ 1630477228166597776 }
+    /// A packing fraction, which isn't 0, times that.
+    pub fn scaled(&self, y: u64) -> u128
+        requires some { 1 ≤ y }
+        requires inside { y ≤ 2 ^ 40 }
+        ensures value { result ≡ y * covolume_scale (numbers_of self.now.case) }
+        ensures low { 2 ^ 16 ≤ result }
+        ensures high { result ≤ 2 ^ 85 }
+        ensures at_half { y ≡ 2 ^ 39 → 2 ^ 55 ≤ result }
     {
-        self.two.lo as u128
+        scaled(y, self.volume_scale())
     }
+}
 
-    /// The root of 2 at most, in 2^-60.
-    pub fn two_hi(&self) -> u128
-        ensures value { pos result ≡ (numbers_of self.now.case).root_two.hi }
-        ensures exact { result ≡ 1630477228166597777 }
-    {
-        self.two.hi as u128
-    }
-
-    /// The logarithm of e to the base 2 at least, in 2^-40.
-    pub fn e_lo(&self) -> u128
-        ensures value { pos result ≡ (numbers_of self.now.case).log_e.lo }
-        ensures exact { result ≡ 1586259924992 }
-    {
-        self.e.lo as u128
-    }
-
-    /// The logarithm of e to the base 2 at most, in 2^-40.
-    pub fn e_hi(&self) -> u128
-        ensures value { pos result ≡ (numbers_of self.now.case).log_e.hi }
-        ensures exact { result ≡ 1586260020565 }
-    {
-        self.e.hi as u128
-    }
+/// A packing fraction times a scale.
+fn scaled(y: u64, scale: u128) -> u128
+    requires some { 1 ≤ y }
+    requires inside { y ≤ 2 ^ 40 }
+    requires low { 2 ^ 16 ≤ scale }
+    requires high { scale ≤ 2 ^ 45 }
+    ensures value { result ≡ y * scale }
+    ensures low { 2 ^ 16 ≤ result }
+    ensures high { result ≤ 2 ^ 85 }
+    ensures at_half { y ≡ 2 ^ 39 → 2 ^ 55 ≤ result }
+{
+    y as u128 * scale
 }
 
 /// The reduced co-volume of a component, in `2^-(56+lift)`.

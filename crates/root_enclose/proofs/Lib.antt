@@ -1,2 +1,3 @@
 pub mod RootDigits
 pub mod Squares
+pub mod Exports

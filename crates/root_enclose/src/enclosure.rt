@@ -1,11 +1,11 @@
 //! Roots of fractions.
 
 ghost use Rattle.std.specs.Prelude.{◌≡◌, ◌≢◌, ◌-◌, ◌*◌, ◌^◌, ◌<◌, ◌≤◌, pos, ◌+ℤ◌};
-ghost use Rattle.fix_interval.specs.Interval.{ends_of};
+ghost use Rattle.log_laws.specs.Interval.{ends_of};
 ghost use Rattle.log_laws.specs.Roots.{root_ends, square_times};
 
 use super::whole::isqrt;
-use fix_interval::Iv;
+use log_laws::Iv;
 
 /// `num` times 4^`scale`.
 fn scaled(num: u128, scale: u32) -> u128

@@ -1,7 +1,7 @@
 //! Examples worked by hand.
 
 use super::*;
-use fix_interval::Iv;
+use log_laws::Iv;
 
 #[test]
 fn roots_of_whole_numbers(rt: HostRuntime) {

@@ -3,8 +3,9 @@
 ghost use Rattle.std.specs.Prelude.{◌≡◌, ◌≤◌, [], ◌∷◌, map, pos, slice_index, slice_index_or, IsTrue};
 ghost use Rattle.log_laws.specs.Sums.{all_below};
 ghost use Rattle.case_types.specs.Ranges.{are_interactions, is_acentric_factor, is_critical_pressure, is_critical_temperature};
+ghost use Rattle.case_types.specs.declared.cases.Edition.TheVariants.{Y1976};
 
-use case_types::{Case, Name, Row, SLOTS};
+use case_types::{Case, Edition, Name, Row, SLOTS};
 
 /// No name.
 pub const NAMELESS: Name = Name {
@@ -30,7 +31,7 @@ pub fn nameless(tc: u32, pc: u32, w: i32) -> Row
     }
 }
 
-/// Equal parts of the first `n` components, with their interactions in 1e-4, at `t` in mK and `p` in Pa.
+/// Equal parts of the first `n` components, with their interactions in 1e-4, at `t` in mK and `p` in Pa, in the edition of 1976.
 pub fn equal_parts(n: u8, rows: [Row; SLOTS], k: [[i32; SLOTS]; SLOTS], t: u32, p: u32) -> Case
     requires some { 1 ≤ n }
     requires few { n ≤ 4 }
@@ -48,6 +49,7 @@ pub fn equal_parts(n: u8, rows: [Row; SLOTS], k: [[i32; SLOTS]; SLOTS], t: u32, 
     ensures parts { result.z ≡ 1 ∷ 1 ∷ 1 ∷ 1 ∷ [] }
     ensures t { result.t ≡ t }
     ensures p { result.p ≡ p }
+    ensures edition { result.edition ≡ Y1976 }
 {
     Case {
         n,
@@ -57,5 +59,6 @@ pub fn equal_parts(n: u8, rows: [Row; SLOTS], k: [[i32; SLOTS]; SLOTS], t: u32, 
         total: n as u32,
         t,
         p,
+        edition: Edition::Y1976,
     }
 }

@@ -2,17 +2,17 @@
 #![tactic(auto)]
 
 mod fractions;
+mod from_parts;
 mod lower;
 mod mixes;
 #[cfg(test)]
 mod mixtures;
 mod plain;
-mod planes;
-mod pulls;
 #[cfg(test)]
 mod tests;
 mod volumes;
 
+pub use density_boxes::plane_hi;
+pub use from_parts::{low_of_parts, mix_low};
 pub use lower::low_energy;
 pub use plain::low_plain;
-pub use planes::plane_hi;

@@ -4,28 +4,31 @@ use Rattle.std.specs.Int.{w128}
 use Rattle.std.proofs.lemmas.Int.{ints}
 use Rattle.std.proofs.lemmas.List.{append-nil}
 use Rattle.log_laws.proofs.Exports.{back}
-use Rattle.case_types.specs.Cells.{region_of, root_region, lower_half, upper_half, edge_length}
-use Rattle.case_types.specs.Columns.{point_of}
-use Rattle.case_types.specs.Numbers.{numbers_of}
-use Rattle.pr_params.proofs.Sized.{count_of}
-use Rattle.box_search.specs.declared.found.Found.TheVariants.{AllClear, Refuted}
+use Rattle.case_types.specs.Grid.Cells.{region_of, root_region, lower_half, upper_half, edge_length}
+use Rattle.case_types.specs.Grid.Columns.{point_of}
+use Rattle.energy_surface.specs.declared.found.Found.TheVariants.{AllClear, Refuted}
 use Rattle.box_search.proofs.Letters.{no_more, one_more, writes}
 use Rattle.box_search.proofs.Deep.{deep_root, deep_rest, deep_room, deep_halves}
+use Rattle.box_search.proofs.Kept.{parts_top, parts_two}
 use Rattle.box_search.proofs.Root.{begun_rest}
-use Rattle.box_search.proofs.Causes.{middle_refutes, uncleared, cut_off, unit_edge, no_unit_edge, wide_edge, edge_named, edge_inside}
+use Rattle.box_search.proofs.Causes.{middle_pure, middle_refutes, uncleared, cut_off, unit_edge, no_unit_edge, wide_edge, edge_named, edge_inside, unspent}
 use Rattle.box_search.proofs.SoFar.{IsLesser, root_meets, begins, passes, stands, halves, ended, stops_grain, low_clear}
 use Rattle.box_search.proofs.searching.search.Answers.Hand.{Mid, here_low, delta_read, not_clear, root_not_clear, cell_uncleared, far_below, lesser_of, mid_small, stopped_letters, stopped}
+use Rattle.energy_surface.proofs.Exports.{grain_of_hand}
 use Rattle.box_search.proofs.searching.search.Goals as goal
-use Rattle.box_search.proofs.searching.search.Goals.{After-cell-else-is_spent-2-1}
+use Rattle.energy_surface.specs.Surfaces.{under}
 
 -- ---- the loop
-pub loop-cell-init : goal.loop-cell-init
-loop-cell-init c =
-    let n : length c.new-stack.result ≡ 1 = ap length c.new-stack.ensures.whole in
+pub loop-half-init : goal.loop-half-init
+loop-half-init g c =
+    let s = g.S.Surface.bounds c.args.surface.now in
+    let first : c.new-stack.result.regions ≡ root_region s.count ∷ [] = c.new-stack.ensures.whole ∙ ap (λ r. r ∷ []) c.whole.ensures.whole in
+    let n : length c.new-stack.result.regions ≡ 1 = ap length first in
     let none : 2 * (c.args.units.now.spent - c.args.units.now.spent) + 1 - 1 ≡ 0 = omega arith in
-    let first : c.new-stack.result ≡ root_region (numbers_of c.args.params.now.case).count ∷ [] = rw (count_of c.args.params.now.case) c.new-stack.ensures.whole in
+    let halvings = rw c.whole.ensures.whole at c.whole.ensures.halvings in
     record {
-      deep = rw c.new-stack.ensures.whole (deep_root c.args.params.now.case.n c.args.params.now.case.few c.new-stack.ensures.halvings);
+      parts = rw c.new-stack.ensures.halves (c.whole.ensures.parts c.args.plane.now.lam, tt);
+      deep = rw first (deep_root s.count (omega (arith, c.count-n.ensures.value, c.count-n.ensures.four)) halvings);
       begun = inl first;
       low = omega (arith, ints, c.requires.delta_low, c.requires.delta_high);
       high = omega (arith, ints);
@@ -33,33 +36,35 @@ loop-cell-init c =
       spent = omega arith;
       letters = rw (n, none) (no_more c.args.letters.now);
       so_far =
-          begins (numbers_of c.args.params.now.case) c.args.plane.now.lam _ c.args.letters.now.items (c.args.units.now.spent - c.args.units.now.spent) c.new-stack.result
+          begins (under (g.S.Surface.bounds c.args.surface.now) c.args.plane.now.lam _) c.args.letters.now.items (c.args.units.now.spent - c.args.units.now.spent) c.new-stack.result.regions
           first (omega arith);
       counted = omega (arith, n);
     }
 
-pub loop-cell-preserved-then-here-delta : goal.loop-cell-preserved-then-here-delta
-loop-cell-preserved-then-here-delta c =
-    let old = c.loop-cell.invariant in
+pub loop-half-preserved-then-here-delta : goal.loop-half-preserved-then-here-delta
+loop-half-preserved-then-here-delta g c =
+    let old = c.loop-half.invariant in
     let e = c.in-Some.ensures.some in
-    let n : length c.loop-cell.stack ≡ length c.pop.new.self + 1 = ap length e ∙ omega arith in
-    let spent = c.loop-cell.units.spent - c.args.units.now.spent in
-    let more = one_more c.args.letters.now c.loop-cell.letters c.push-then-here-delta.new.self (2 * spent + 1 - length c.loop-cell.stack) 112 old.letters c.push-then-here-delta.ensures.items c.push-then-here-delta.ensures.room in
-    let count : 2 * spent + 1 - length c.loop-cell.stack + 1 ≡ 2 * spent + 1 - length c.pop.new.self = omega (arith, n, old.counted) in
+    let n : length c.loop-half.stack.regions ≡ length c.pop.new.self.regions + 1 = ap length e ∙ omega arith in
+    let spent = c.loop-half.units.spent - c.args.units.now.spent in
+    let more = one_more c.args.letters.now c.loop-half.letters c.push-then-here-delta.new.self (2 * spent + 1 - length c.loop-half.stack.regions) 112 old.letters c.push-then-here-delta.ensures.items c.push-then-here-delta.ensures.room in
+    let count : 2 * spent + 1 - length c.loop-half.stack.regions + 1 ≡ 2 * spent + 1 - length c.pop.new.self.regions = omega (arith, n, old.counted) in
     let d = neg_ℤ c.args.delta in
     let either = c.smaller-low.ensures.either d (omega (arith, ints, old.low))
-    (omega (arith, ints, c.if-here-delta.true, c.requires.delta_low, c.requires.delta_high, c.low_plain-here.ensures.small)) in
+    (omega (arith, ints, c.if-here-delta.true, c.requires.delta_low, c.requires.delta_high, c.look-looked.ensures.small)) in
     let read = back c.smaller-low.result (omega (arith, ints, either, old.high, c.smaller-low.ensures.first, c.requires.delta_low, c.requires.delta_high)) in
-    let lesser : IsLesser (to_z w128 c.loop-cell.low-bits) c.low_plain-here.result c.smaller-low.result = (
+    let lesser : IsLesser (to_z w128 c.loop-half.low-bits) c.look-looked.result.low c.smaller-low.result = (
       omega (arith, ints, c.smaller-low.ensures.first),
-      omega (arith, ints, c.smaller-low.ensures.second, c.low_plain-here.ensures.small),
-      λ z h k. c.smaller-low.ensures.either z (omega (arith, ints, h)) (omega (arith, ints, k, c.low_plain-here.ensures.small)),
+      omega (arith, ints, c.smaller-low.ensures.second, c.look-looked.ensures.small),
+      λ z h k. c.smaller-low.ensures.either z (omega (arith, ints, h)) (omega (arith, ints, k, c.look-looked.ensures.small)),
     ) in
-    let clear : neg_ℤ (to_z w128 (of_z w128 c.args.delta)) ≤ℤ c.low_plain-here.result =
-    omega (arith, ints, c.if-here-delta.true, c.requires.delta_low, c.requires.delta_high, c.low_plain-here.ensures.small) in
+    let clear : neg_ℤ (to_z w128 (of_z w128 c.args.delta)) ≤ℤ c.look-looked.result.low =
+    omega (arith, ints, c.if-here-delta.true, c.requires.delta_low, c.requires.delta_high, c.look-looked.ensures.small) in
     record {
-      deep = deep_rest (region_of c.in-Some.cell) c.pop.new.self (rw e at old.deep);
-      begun = begun_rest (numbers_of c.args.params.now.case) c.args.plane.now.lam (to_z w128 (of_z w128 c.args.delta)) (region_of c.in-Some.cell) c.loop-cell.stack c.pop.new.self e old.begun;
+      parts = (parts_top (g.S.Surface.is_mix_low c.args.surface.now) (g.S.Surface.is_mix_up c.args.surface.now) (g.S.Surface.are_logs c.args.surface.now) (g.S.Surface.bounds c.args.surface.now).count c.args.plane.now.lam c.loop-half.stack.halves c.pop.new.self.halves c.in-Some.half
+          c.in-Some.ensures.halves c.loop-half.invariant.parts).1;
+      deep = deep_rest (region_of c.in-Some.half.cell) c.pop.new.self.regions (rw e at old.deep);
+      begun = begun_rest (under (g.S.Surface.bounds c.args.surface.now) c.args.plane.now.lam (to_z w128 (of_z w128 c.args.delta))) (region_of c.in-Some.half.cell) c.loop-half.stack.regions c.pop.new.self.regions e old.begun;
       low = omega (arith, ints, either);
       high = omega (arith, ints, old.high, c.smaller-low.ensures.first);
       budget = old.budget;
@@ -67,223 +72,224 @@ loop-cell-preserved-then-here-delta c =
       letters = rw count at more;
       so_far =
           rw read
-          (stands (numbers_of c.args.params.now.case) c.args.plane.now.lam _ (to_z w128 c.loop-cell.low-bits) c.smaller-low.result c.args.letters.now.items c.loop-cell.letters.items
-          c.push-then-here-delta.new.self.items spent (region_of c.in-Some.cell) c.loop-cell.stack c.pop.new.self e c.push-then-here-delta.ensures.items
-          (rw (count_of c.args.params.now.case, ← c.misses.ensures) c.if-misses.false, rw c.low_plain-here.ensures.value at clear)
-          (rw c.low_plain-here.ensures.value at lesser) (rw (← c.low_plain-here.ensures.value) (omega (arith, ints, c.low_plain-here.ensures.small))) old.so_far);
+          (stands (under (g.S.Surface.bounds c.args.surface.now) c.args.plane.now.lam _) (to_z w128 c.loop-half.low-bits) c.smaller-low.result c.args.letters.now.items c.loop-half.letters.items
+          c.push-then-here-delta.new.self.items spent (region_of c.in-Some.half.cell) c.loop-half.stack.regions c.pop.new.self.regions e c.push-then-here-delta.ensures.items
+          (rw (← c.count-n.ensures.value, ← c.misses.ensures) c.if-misses.false, rw c.look-looked.ensures.value at clear)
+          (rw c.look-looked.ensures.value at lesser) (rw (← c.look-looked.ensures.value) (omega (arith, ints, c.look-looked.ensures.small))) old.so_far);
       counted = omega (arith, n, old.counted);
     }
 
-pub loop-cell-preserved-then-misses : goal.loop-cell-preserved-then-misses
-loop-cell-preserved-then-misses c =
-    let old = c.loop-cell.invariant in
+pub loop-half-preserved-then-misses : goal.loop-half-preserved-then-misses
+loop-half-preserved-then-misses g c =
+    let old = c.loop-half.invariant in
     let e = c.in-Some.ensures.some in
-    let n : length c.loop-cell.stack ≡ length c.pop.new.self + 1 = ap length e ∙ omega arith in
-    let spent = c.loop-cell.units.spent - c.args.units.now.spent in
-    let more = one_more c.args.letters.now c.loop-cell.letters c.push.new.self (2 * spent + 1 - length c.loop-cell.stack) 109 old.letters c.push.ensures.items c.push.ensures.room in
-    let count : 2 * spent + 1 - length c.loop-cell.stack + 1 ≡ 2 * spent + 1 - length c.pop.new.self = omega (arith, n, old.counted) in
+    let n : length c.loop-half.stack.regions ≡ length c.pop.new.self.regions + 1 = ap length e ∙ omega arith in
+    let spent = c.loop-half.units.spent - c.args.units.now.spent in
+    let more = one_more c.args.letters.now c.loop-half.letters c.push.new.self (2 * spent + 1 - length c.loop-half.stack.regions) 109 old.letters c.push.ensures.items c.push.ensures.room in
+    let count : 2 * spent + 1 - length c.loop-half.stack.regions + 1 ≡ 2 * spent + 1 - length c.pop.new.self.regions = omega (arith, n, old.counted) in
     record {
-      deep = deep_rest (region_of c.in-Some.cell) c.pop.new.self (rw e at old.deep);
-      begun = begun_rest (numbers_of c.args.params.now.case) c.args.plane.now.lam (to_z w128 (of_z w128 c.args.delta)) (region_of c.in-Some.cell) c.loop-cell.stack c.pop.new.self e old.begun;
+      parts = (parts_top (g.S.Surface.is_mix_low c.args.surface.now) (g.S.Surface.is_mix_up c.args.surface.now) (g.S.Surface.are_logs c.args.surface.now) (g.S.Surface.bounds c.args.surface.now).count c.args.plane.now.lam c.loop-half.stack.halves c.pop.new.self.halves c.in-Some.half
+          c.in-Some.ensures.halves c.loop-half.invariant.parts).1;
+      deep = deep_rest (region_of c.in-Some.half.cell) c.pop.new.self.regions (rw e at old.deep);
+      begun = begun_rest (under (g.S.Surface.bounds c.args.surface.now) c.args.plane.now.lam (to_z w128 (of_z w128 c.args.delta))) (region_of c.in-Some.half.cell) c.loop-half.stack.regions c.pop.new.self.regions e old.begun;
       low = old.low;
       high = old.high;
       budget = old.budget;
       spent = old.spent;
       letters = rw count at more;
       so_far =
-          passes (numbers_of c.args.params.now.case) c.args.plane.now.lam _ (to_z w128 c.loop-cell.low-bits) c.args.letters.now.items c.loop-cell.letters.items
-          c.push.new.self.items spent (region_of c.in-Some.cell) c.loop-cell.stack c.pop.new.self e c.push.ensures.items
-          (rw (count_of c.args.params.now.case, ← c.misses.ensures) c.if-misses.true) old.so_far;
+          passes (under (g.S.Surface.bounds c.args.surface.now) c.args.plane.now.lam _) (to_z w128 c.loop-half.low-bits) c.args.letters.now.items c.loop-half.letters.items
+          c.push.new.self.items spent (region_of c.in-Some.half.cell) c.loop-half.stack.regions c.pop.new.self.regions e c.push.ensures.items
+          (rw (← c.count-n.ensures.value, ← c.misses.ensures) c.if-misses.true) old.so_far;
       counted = omega (arith, n, old.counted);
     }
 
-pub is_unit-requires : goal.is_unit-requires
-is_unit-requires c =
-    edge_inside c.args.params.now.case.n c.edge_to_halve-edge.result c.args.params.now.case.few c.edge_to_halve-edge.ensures.edge
+pub spend-requires : goal.spend-requires
+spend-requires g c = unspent c.loop-half.units.spent c.loop-half.units.budget c.loop-half.units.within (λ e. let t = c.is_spent.ensures.1 e in cc)
 
-wide : (c : After-cell-else-is_spent-2-1) → 2 ≤ edge_length (region_of c.in-Some.cell) c.edge_to_halve-edge.result
-wide c =
-    wide_edge (edge_length (region_of c.in-Some.cell) c.edge_to_halve-edge.result) c.edge_to_halve-edge.ensures.long (λ k. let t = c.is_unit.ensures.unit.1 k in cc)
+pub spend-requires-in-Some : goal.spend-requires-in-Some
+spend-requires-in-Some g c =
+    unspent c.loop-half.units.spent c.loop-half.units.budget c.loop-half.units.within (λ e. let t = c.is_spent-in-Some.ensures.1 e in cc)
 
-pub push_halves-requires-clause-wide : goal.push_halves-requires-clause-wide
-push_halves-requires-clause-wide c = wide c
-
-pub push_halves-requires-clause-room : goal.push_halves-requires-clause-room
-push_halves-requires-clause-room c =
-    let k = deep_room (region_of c.in-Some.cell) c.pop.new.self (rw c.in-Some.ensures.some at c.loop-cell.invariant.deep) in
+pub push_halves-requires : goal.push_halves-requires
+push_halves-requires g c =
+    let k = deep_room (region_of c.in-Some.half.cell) c.pop.new.self.regions (rw c.in-Some.ensures.some at c.loop-half.invariant.deep) in
     omega (arith, k)
 
-pub loop-cell-preserved : goal.loop-cell-preserved
-loop-cell-preserved c =
-    let old = c.loop-cell.invariant in
+pub loop-half-preserved : goal.loop-half-preserved
+loop-half-preserved g c =
+    let old = c.loop-half.invariant in
     let e = c.in-Some.ensures.some in
-    let n : length c.loop-cell.stack ≡ length c.pop.new.self + 1 = ap length e ∙ omega arith in
-    let m : length c.push_halves.new.self ≡ length c.pop.new.self + 2 = ap length c.push_halves.ensures.halves ∙ omega arith in
-    let here = goal.at.loop-cell-preserved c in
-    let spent = c.loop-cell.units.spent - c.args.units.now.spent in
-    let next = c.spend-else-is_spent-2.ensures.spent in
-    let more = one_more c.args.letters.now c.loop-cell.letters c.push-else-is_spent-2.new.self (2 * spent + 1 - length c.loop-cell.stack) c.edge_letter.result old.letters
-    c.push-else-is_spent-2.ensures.items c.push-else-is_spent-2.ensures.room in
-    let count : 2 * spent + 1 - length c.loop-cell.stack + 1 ≡ 2 * (c.spend-else-is_spent-2.new.self.spent - c.args.units.now.spent) + 1 - length c.push_halves.new.self =
+    let n : length c.loop-half.stack.regions ≡ length c.pop.new.self.regions + 1 = ap length e ∙ omega arith in
+    let regions : c.push_halves.new.self.regions ≡ lower_half c.edge_to_halve-edge.result (region_of c.in-Some.half.cell) ∷ upper_half c.edge_to_halve-edge.result (region_of c.in-Some.half.cell) ∷ c.pop.new.self.regions =
+    rw (c.halves.ensures.lower, c.halves.ensures.upper) at c.push_halves.ensures.regions in
+    let lower_left = rw c.halves.ensures.lower at c.halves.ensures.lower_left in
+    let upper_left = rw c.halves.ensures.upper at c.halves.ensures.upper_left in
+    let m : length c.push_halves.new.self.regions ≡ length c.pop.new.self.regions + 2 = ap length regions ∙ omega arith in
+    let here = goal.at.loop-half-preserved g c in
+    let spent = c.loop-half.units.spent - c.args.units.now.spent in
+    let next = c.spend-in-Some.ensures.spent in
+    let more = one_more c.args.letters.now c.loop-half.letters c.push-in-Some.new.self (2 * spent + 1 - length c.loop-half.stack.regions) c.edge_letter.result old.letters
+    c.push-in-Some.ensures.items c.push-in-Some.ensures.room in
+    let count : 2 * spent + 1 - length c.loop-half.stack.regions + 1 ≡ 2 * (c.spend-in-Some.new.self.spent - c.args.units.now.spent) + 1 - length c.push_halves.new.self.regions =
     omega (arith, n, m, next, old.spent, old.counted) in
-    let delta = delta_read here.Else-here-delta in
-    let r = region_of c.in-Some.cell in
+    let delta = delta_read g here.Else-here-delta in
+    let r = region_of c.in-Some.half.cell in
     let edge = c.edge_to_halve-edge.result in
-    let inside = edge_inside c.args.params.now.case.n edge c.args.params.now.case.few c.edge_to_halve-edge.ensures.edge in
+    let inside = edge_inside c.count-n.result edge c.count-n.ensures.four c.edge_to_halve-edge.ensures.edge in
     record {
-      deep = rw c.push_halves.ensures.halves
-          (deep_halves r (lower_half edge r) (upper_half edge r) c.pop.new.self c.push_halves.ensures.lower_left c.push_halves.ensures.upper_left (rw e at old.deep));
-      begun = rw delta (inr (inr (root_not_clear here.Else-here-delta)));
+      parts =
+          let lam = c.args.plane.now.lam in
+          let own = parts_top (g.S.Surface.is_mix_low c.args.surface.now) (g.S.Surface.is_mix_up c.args.surface.now) (g.S.Surface.are_logs c.args.surface.now) (g.S.Surface.bounds c.args.surface.now).count c.args.plane.now.lam c.loop-half.stack.halves c.pop.new.self.halves c.in-Some.half c.in-Some.ensures.halves old.parts in
+          parts_two (g.S.Surface.is_mix_low c.args.surface.now) (g.S.Surface.is_mix_up c.args.surface.now) (g.S.Surface.are_logs c.args.surface.now) (g.S.Surface.bounds c.args.surface.now).count c.args.plane.now.lam c.push_halves.new.self.halves c.pop.new.self.halves c.halves.result.0 c.halves.result.1 c.push_halves.ensures.halves
+          (c.halves.ensures.lower_parts lam own.0 c.look-looked.ensures.over) (c.halves.ensures.upper_parts lam own.0 c.look-looked.ensures.over) own.1;
+      deep = rw regions
+          (deep_halves r (lower_half edge r) (upper_half edge r) c.pop.new.self.regions lower_left upper_left (rw e at old.deep));
+      begun = rw delta (inr (inr (root_not_clear g here.Else-here-delta)));
       low = old.low;
       high = old.high;
-      budget = c.spend-else-is_spent-2.ensures.budget ∙ old.budget;
+      budget = c.spend-in-Some.ensures.budget ∙ old.budget;
       spent = omega (arith, next, old.spent);
       letters = rw count at more;
       so_far =
           rw delta
-          (halves (numbers_of c.args.params.now.case) c.args.plane.now.lam c.args.delta (to_z w128 c.loop-cell.low-bits) c.args.letters.now.items c.loop-cell.letters.items
-          c.push-else-is_spent-2.new.self.items spent (c.spend-else-is_spent-2.new.self.spent - c.args.units.now.spent) edge r
-          c.loop-cell.stack c.pop.new.self c.push_halves.new.self inside e c.push_halves.ensures.halves (c.push-else-is_spent-2.ensures.items ∙ ap (λ x. c.loop-cell.letters.items ++ x ∷ []) c.edge_letter.ensures) (
-            record { uncleared = cell_uncleared here.Else-here-delta; not_refuting = rw delta at c.in_default-refuting.ensures.none },
-            no_unit_edge c.args.params.now.case.n (numbers_of c.args.params.now.case).count (region_of c.in-Some.cell) c.edge_to_halve-edge.result c.is_unit.result
-                (count_of c.args.params.now.case) c.edge_to_halve-edge.ensures.named c.is_unit.ensures.value c.if-is_unit.false,
-            edge_named c.args.params.now.case.n (numbers_of c.args.params.now.case).count r edge (count_of c.args.params.now.case) c.edge_to_halve-edge.ensures.named,
+          (halves (under (g.S.Surface.bounds c.args.surface.now) c.args.plane.now.lam c.args.delta) (to_z w128 c.loop-half.low-bits) c.args.letters.now.items c.loop-half.letters.items
+          c.push-in-Some.new.self.items spent (c.spend-in-Some.new.self.spent - c.args.units.now.spent) edge r
+          c.loop-half.stack.regions c.pop.new.self.regions c.push_halves.new.self.regions inside e regions (c.push-in-Some.ensures.items ∙ ap (λ x. c.loop-half.letters.items ++ x ∷ []) c.edge_letter.ensures) (
+            record { uncleared = cell_uncleared g here.Else-here-delta; not_refuting = rw (delta, c.middle_of-middle.ensures.at) at c.in_default-refuting.ensures.none },
+            no_unit_edge c.count-n.result (g.S.Surface.bounds c.args.surface.now).count (region_of c.in-Some.half.cell) c.edge_to_halve-edge.result c.is_unit.result
+                (sym c.count-n.ensures.value) c.edge_to_halve-edge.ensures.named c.is_unit.ensures.value c.if-is_unit.false,
+            edge_named c.count-n.result (g.S.Surface.bounds c.args.surface.now).count r edge (sym c.count-n.ensures.value) c.edge_to_halve-edge.ensures.named,
           )
           (omega (arith, next, old.spent)) (rw delta at old.so_far));
       counted = omega (arith, n, m, next, old.spent, old.counted);
     }
 
 pub close-low-requires-clause-small : goal.close-low-requires-clause-small
-close-low-requires-clause-small c =
-    let here = (goal.at.close-low-requires-clause-small c).Else-here-delta in
-    let size = mid_small here c.smaller.result (c.smaller.ensures.first, c.smaller.ensures.second, c.smaller.ensures.either) in
+close-low-requires-clause-small g c =
+    let here = (goal.at.close-low-requires-clause-small g c).Else-here-delta in
+    let size = mid_small g here c.smaller.result (c.smaller.ensures.first, c.smaller.ensures.second, c.smaller.ensures.either) in
     rw (back c.smaller.result (omega (arith, size))) size
 
 pub close-low-requires-then-is_unit-clause-small : goal.close-low-requires-then-is_unit-clause-small
-close-low-requires-then-is_unit-clause-small c =
-    let here = (goal.at.close-low-requires-then-is_unit-clause-small c).Else-here-delta in
-    let size = mid_small here c.smaller-then-is_unit.result (c.smaller-then-is_unit.ensures.first, c.smaller-then-is_unit.ensures.second, c.smaller-then-is_unit.ensures.either) in
+close-low-requires-then-is_unit-clause-small g c =
+    let here = (goal.at.close-low-requires-then-is_unit-clause-small g c).Else-here-delta in
+    let size = mid_small g here c.smaller-then-is_unit.result (c.smaller-then-is_unit.ensures.first, c.smaller-then-is_unit.ensures.second, c.smaller-then-is_unit.ensures.either) in
     rw (back c.smaller-then-is_unit.result (omega (arith, size))) size
 
 pub close-low-requires-then-is_spent-2-clause-small : goal.close-low-requires-then-is_spent-2-clause-small
-close-low-requires-then-is_spent-2-clause-small c =
-    let here = (goal.at.close-low-requires-then-is_spent-2-clause-small c).Else-here-delta in
-    let size = mid_small here c.smaller-then-is_spent-2.result (c.smaller-then-is_spent-2.ensures.first, c.smaller-then-is_spent-2.ensures.second, c.smaller-then-is_spent-2.ensures.either) in
+close-low-requires-then-is_spent-2-clause-small g c =
+    let here = (goal.at.close-low-requires-then-is_spent-2-clause-small g c).Else-here-delta in
+    let size = mid_small g here c.smaller-then-is_spent-2.result (c.smaller-then-is_spent-2.ensures.first, c.smaller-then-is_spent-2.ensures.second, c.smaller-then-is_spent-2.ensures.either) in
     rw (back c.smaller-then-is_spent-2.result (omega (arith, size))) size
 
 -- ---- the ends
 pub returns-then-is_spent-clause-root : goal.returns-then-is_spent-clause-root
-returns-then-is_spent-clause-root c = root_not_clear (goal.at.returns-then-is_spent-clause-root c).Else-here-delta
+returns-then-is_spent-clause-root g c = root_not_clear g (goal.at.returns-then-is_spent-clause-root g c).Else-here-delta
 
 pub returns-in-Some-refuting-clause-root : goal.returns-in-Some-refuting-clause-root
-returns-in-Some-refuting-clause-root c = root_not_clear (goal.at.returns-in-Some-refuting-clause-root c).Else-here-delta
+returns-in-Some-refuting-clause-root g c = root_not_clear g (goal.at.returns-in-Some-refuting-clause-root g c).Else-here-delta
 
 pub returns-then-is_unit-clause-root : goal.returns-then-is_unit-clause-root
-returns-then-is_unit-clause-root c = root_not_clear (goal.at.returns-then-is_unit-clause-root c).Else-here-delta
+returns-then-is_unit-clause-root g c = root_not_clear g (goal.at.returns-then-is_unit-clause-root g c).Else-here-delta
 
 pub returns-then-is_spent-2-clause-root : goal.returns-then-is_spent-2-clause-root
-returns-then-is_spent-2-clause-root c = root_not_clear (goal.at.returns-then-is_spent-2-clause-root c).Else-here-delta
+returns-then-is_spent-2-clause-root g c = root_not_clear g (goal.at.returns-then-is_spent-2-clause-root g c).Else-here-delta
 
 pub returns-then-is_spent-clause-found : goal.returns-then-is_spent-clause-found
-returns-then-is_spent-clause-found c =
-    let here = (goal.at.returns-then-is_spent-clause-found c).Else-here-delta in
-    (omega (arith, ints, here_low here, c.smaller.ensures.second, c.close-low.ensures.low, c.requires.delta_low, c.requires.delta_high), c.is_spent.ensures.0 c.if-is_spent.true)
-
-pub returns-then-is_unit-clause-found : goal.returns-then-is_unit-clause-found
-returns-then-is_unit-clause-found c =
-    let here = (goal.at.returns-then-is_unit-clause-found c).Else-here-delta in (
-      omega (arith, ints, here_low here, c.smaller-then-is_unit.ensures.second, c.close-low-then-is_unit.ensures.low, c.requires.delta_low, c.requires.delta_high),
-      record { one_unit = rw (count_of c.args.params.now.case, ← c.edge_to_halve-edge.ensures.named) (c.is_unit.ensures.unit.0 c.if-is_unit.true); not_clear = not_clear here },
-    )
+returns-then-is_spent-clause-found g c =
+    let here = (goal.at.returns-then-is_spent-clause-found g c).Else-here-delta in
+    (omega (arith, ints, here_low g here, c.smaller.ensures.second, c.close-low.ensures.low, c.requires.delta_low, c.requires.delta_high), c.is_spent.ensures.0 c.if-is_spent.true)
 
 pub returns-then-is_spent-2-clause-found : goal.returns-then-is_spent-2-clause-found
-returns-then-is_spent-2-clause-found c =
-    let here = (goal.at.returns-then-is_spent-2-clause-found c).Else-here-delta in (
-      omega (arith, ints, here_low here, c.smaller-then-is_spent-2.ensures.second, c.close-low-then-is_spent-2.ensures.low, c.requires.delta_low, c.requires.delta_high),
-      c.is_spent-else-is_unit.ensures.0 c.if-is_spent-2.true,
+returns-then-is_spent-2-clause-found g c =
+    let here = (goal.at.returns-then-is_spent-2-clause-found g c).Else-here-delta in (
+      omega (arith, ints, here_low g here, c.smaller-then-is_spent-2.ensures.second, c.close-low-then-is_spent-2.ensures.low, c.requires.delta_low, c.requires.delta_high),
+      c.is_spent-in-Some.ensures.0 c.if-is_spent-2.true,
     )
 
 pub returns-then-is_spent-clause-letters : goal.returns-then-is_spent-clause-letters
-returns-then-is_spent-clause-letters c = stopped_letters (goal.at.returns-then-is_spent-clause-letters c).Else-here-delta c.close-low.new.letters c.close-low.ensures.letters
+returns-then-is_spent-clause-letters g c = stopped_letters g (goal.at.returns-then-is_spent-clause-letters g c).Else-here-delta c.close-low.new.letters c.close-low.ensures.letters
 
 pub returns-then-is_unit-clause-letters : goal.returns-then-is_unit-clause-letters
-returns-then-is_unit-clause-letters c = stopped_letters (goal.at.returns-then-is_unit-clause-letters c).Else-here-delta c.close-low-then-is_unit.new.letters c.close-low-then-is_unit.ensures.letters
+returns-then-is_unit-clause-letters g c = stopped_letters g (goal.at.returns-then-is_unit-clause-letters g c).Else-here-delta c.close-low-then-is_unit.new.letters c.close-low-then-is_unit.ensures.letters
 
 pub returns-then-is_spent-2-clause-letters : goal.returns-then-is_spent-2-clause-letters
-returns-then-is_spent-2-clause-letters c = stopped_letters (goal.at.returns-then-is_spent-2-clause-letters c).Else-here-delta c.close-low-then-is_spent-2.new.letters c.close-low-then-is_spent-2.ensures.letters
-
-pub returns-in-Some-refuting-clause-letters : goal.returns-in-Some-refuting-clause-letters
-returns-in-Some-refuting-clause-letters c =
-    let old = c.loop-cell.invariant in
-    let spent = c.loop-cell.units.spent - c.args.units.now.spent in
-    writes c.args.letters.now c.loop-cell.letters (2 * spent + 1 - length c.loop-cell.stack) (c.spend.new.self.spent - c.args.units.now.spent) old.letters
-    (omega (arith, c.spend.ensures.spent, old.spent))
+returns-then-is_spent-2-clause-letters g c = stopped_letters g (goal.at.returns-then-is_spent-2-clause-letters g c).Else-here-delta c.close-low-then-is_spent-2.new.letters c.close-low-then-is_spent-2.ensures.letters
 
 -- ---- what is written
 
 pub returns-then-is_spent-clause-searched : goal.returns-then-is_spent-clause-searched
-returns-then-is_spent-clause-searched c =
-    let case = c.args.params.now.case in
-    let here = (goal.at.returns-then-is_spent-clause-searched c).Else-here-delta in
-    let refutes = rw (delta_read here) at c.in-Some-refuting.ensures.refutes in
+returns-then-is_spent-clause-searched g c =
+    let here = (goal.at.returns-then-is_spent-clause-searched g c).Else-here-delta in
+    let refutes = rw (delta_read g here) at c.in-Some-refuting.ensures.refutes in
     rw (back c.close-low.result (omega (arith, c.close-low.ensures.small)))
-    (stopped here c.smaller.result c.close-low.result c.close-low.new.letters.items (c.smaller.ensures.first, c.smaller.ensures.second, c.smaller.ensures.either)
+    (stopped g here c.smaller.result c.close-low.result c.close-low.new.letters.items (c.smaller.ensures.first, c.smaller.ensures.second, c.smaller.ensures.either)
     (record {
-      uncleared = cell_uncleared here;
-      wants = inl (middle_refutes (numbers_of case) c.args.plane.now.lam c.args.delta (region_of c.in-Some.cell) (point_of c.in-Some-refuting.column) c.in-Some-refuting.ensures.middle refutes);
+      uncleared = cell_uncleared g here;
+      wants = inl (middle_refutes (under (g.S.Surface.bounds c.args.surface.now) c.args.plane.now.lam c.args.delta) (region_of c.in-Some.half.cell) (point_of c.in-Some-refuting.column) (rw c.middle_of-middle.ensures.at at c.in-Some-refuting.ensures.middle) refutes);
     }) c.close-low.ensures.closes)
 
 pub returns-in-Some-refuting-clause-searched : goal.returns-in-Some-refuting-clause-searched
-returns-in-Some-refuting-clause-searched c =
-    let case = c.args.params.now.case in
-    let here = (goal.at.returns-in-Some-refuting-clause-searched c).Else-here-delta in
-    let delta = delta_read here in
+returns-in-Some-refuting-clause-searched g c =
+    let here = (goal.at.returns-in-Some-refuting-clause-searched g c).Else-here-delta in
+    let delta = delta_read g here in
     let refutes = rw delta at c.in-Some-refuting.ensures.refutes in
-    ended (numbers_of case) c.args.plane.now.lam c.args.delta (to_z w128 c.loop-cell.low-bits) c.args.letters.now.items c.loop-cell.letters.items c.loop-cell.letters.items
-    (c.loop-cell.units.spent - c.args.units.now.spent) (c.spend.new.self.spent - c.args.units.now.spent) c.loop-cell.stack (region_of c.in-Some.cell ∷ c.pop.new.self)
+    ended (under (g.S.Surface.bounds c.args.surface.now) c.args.plane.now.lam c.args.delta) (to_z w128 c.loop-half.low-bits) c.args.letters.now.items c.loop-half.letters.items c.loop-half.letters.items
+    (c.loop-half.units.spent - c.args.units.now.spent) (c.spend.new.self.spent - c.args.units.now.spent) c.loop-half.stack.regions (region_of c.in-Some.half.cell ∷ c.pop.new.self.regions)
     (Refuted c.in-Some-refuting.column) c.in-Some.ensures.some
-    (cut_off (numbers_of case) c.args.plane.now.lam c.args.delta c.in-Some-refuting.column (region_of c.in-Some.cell) (cell_uncleared here)
-    c.in-Some-refuting.ensures.middle c.in-Some-refuting.ensures.column refutes)
-    (sym (append-nil c.loop-cell.letters.items)) (omega (arith, c.spend.ensures.spent, c.loop-cell.invariant.spent)) (λ t before e over reached. tt)
-    (rw delta at c.loop-cell.invariant.so_far)
+    (cut_off (under (g.S.Surface.bounds c.args.surface.now) c.args.plane.now.lam c.args.delta) c.in-Some-refuting.column (region_of c.in-Some.half.cell) (cell_uncleared g here)
+    (rw c.middle_of-middle.ensures.at at c.in-Some-refuting.ensures.middle) c.in-Some-refuting.ensures.column refutes)
+    (sym (append-nil c.loop-half.letters.items)) (omega (arith, c.spend.ensures.spent, c.loop-half.invariant.spent)) (λ t before e over reached. tt)
+    (rw delta at c.loop-half.invariant.so_far)
 
 pub returns-then-is_unit-clause-searched : goal.returns-then-is_unit-clause-searched
-returns-then-is_unit-clause-searched c =
-    let case = c.args.params.now.case in
-    let here = (goal.at.returns-then-is_unit-clause-searched c).Else-here-delta in
-    let delta = delta_read here in
-    let mid : Mid here c.smaller-then-is_unit.result = (c.smaller-then-is_unit.ensures.first, c.smaller-then-is_unit.ensures.second, c.smaller-then-is_unit.ensures.either) in
-    let closes = rw (back c.smaller-then-is_unit.result (omega (arith, mid_small here c.smaller-then-is_unit.result mid))) at c.close-low-then-is_unit.ensures.closes in
+returns-then-is_unit-clause-searched g c =
+    let here = (goal.at.returns-then-is_unit-clause-searched g c).Else-here-delta in
+    let delta = delta_read g here in
+    let mid : Mid g here c.smaller-then-is_unit.result = (c.smaller-then-is_unit.ensures.first, c.smaller-then-is_unit.ensures.second, c.smaller-then-is_unit.ensures.either) in
+    let closes = rw (back c.smaller-then-is_unit.result (omega (arith, mid_small g here c.smaller-then-is_unit.result mid))) at c.close-low-then-is_unit.ensures.closes in
     rw (back c.close-low-then-is_unit.result (omega (arith, c.close-low-then-is_unit.ensures.small)))
-    (stops_grain (numbers_of case) c.args.plane.now.lam c.args.delta (to_z w128 c.loop-cell.low-bits) c.smaller-then-is_unit.result c.close-low-then-is_unit.result c.args.letters.now.items c.loop-cell.letters.items
-    c.close-low-then-is_unit.new.letters.items (c.loop-cell.units.spent - c.args.units.now.spent) c.in-Some.cell c.loop-cell.stack c.pop.new.self
+    (stops_grain (under (g.S.Surface.bounds c.args.surface.now) c.args.plane.now.lam c.args.delta) (to_z w128 c.loop-half.low-bits) c.smaller-then-is_unit.result c.close-low-then-is_unit.result c.args.letters.now.items c.loop-half.letters.items
+    c.close-low-then-is_unit.new.letters.items (c.loop-half.units.spent - c.args.units.now.spent) c.in-Some.half.cell c.loop-half.stack.regions c.pop.new.self.regions
     c.in-Some.ensures.some
     (record {
       same = refl;
-      stuck = record { uncleared = cell_uncleared here; not_refuting = rw delta at c.in_default-refuting.ensures.none };
-      one_unit = unit_edge case.n (numbers_of case).count (region_of c.in-Some.cell) c.edge_to_halve-edge.result c.is_unit.result
-          (count_of case) c.edge_to_halve-edge.ensures.named c.is_unit.ensures.value c.if-is_unit.true;
+      stuck = record { uncleared = cell_uncleared g here; not_refuting = rw (delta, c.middle_of-middle.ensures.at) at c.in_default-refuting.ensures.none };
+      one_unit = unit_edge c.count-n.result (g.S.Surface.bounds c.args.surface.now).count (region_of c.in-Some.half.cell) c.edge_to_halve-edge.result c.is_unit.result
+          (sym c.count-n.ensures.value) c.edge_to_halve-edge.ensures.named c.is_unit.ensures.value c.if-is_unit.true;
     })
-    closes (lesser_of here _ mid) (far_below here) (rw delta at c.loop-cell.invariant.so_far))
+    closes (lesser_of g here _ mid) (far_below g here) (rw delta at c.loop-half.invariant.so_far))
+
+pub returns-then-is_unit-clause-found : goal.returns-then-is_unit-clause-found
+returns-then-is_unit-clause-found g c =
+    let here = (goal.at.returns-then-is_unit-clause-found g c).Else-here-delta in
+    let searched = (returns-then-is_unit-clause-searched g c).searched in (
+      omega (arith, ints, here_low g here, c.smaller-then-is_unit.ensures.second, c.close-low-then-is_unit.ensures.low, c.requires.delta_low, c.requires.delta_high),
+      grain_of_hand (under (g.S.Surface.bounds c.args.surface.now) c.args.plane.now.lam c.args.delta) (region_of c.in-Some.half.cell) searched.left searched.ends,
+    )
 
 pub returns-then-is_spent-2-clause-searched : goal.returns-then-is_spent-2-clause-searched
-returns-then-is_spent-2-clause-searched c =
-    let case = c.args.params.now.case in
-    let here = (goal.at.returns-then-is_spent-2-clause-searched c).Else-here-delta in
+returns-then-is_spent-2-clause-searched g c =
+    let here = (goal.at.returns-then-is_spent-2-clause-searched g c).Else-here-delta in
     rw (back c.close-low-then-is_spent-2.result (omega (arith, c.close-low-then-is_spent-2.ensures.small)))
-    (stopped here c.smaller-then-is_spent-2.result c.close-low-then-is_spent-2.result c.close-low-then-is_spent-2.new.letters.items (c.smaller-then-is_spent-2.ensures.first, c.smaller-then-is_spent-2.ensures.second, c.smaller-then-is_spent-2.ensures.either)
+    (stopped g here c.smaller-then-is_spent-2.result c.close-low-then-is_spent-2.result c.close-low-then-is_spent-2.new.letters.items (c.smaller-then-is_spent-2.ensures.first, c.smaller-then-is_spent-2.ensures.second, c.smaller-then-is_spent-2.ensures.either)
     (record {
-      uncleared = cell_uncleared here;
-      wants = inr (no_unit_edge case.n (numbers_of case).count (region_of c.in-Some.cell) c.edge_to_halve-edge.result c.is_unit.result
-          (count_of case) c.edge_to_halve-edge.ensures.named c.is_unit.ensures.value c.if-is_unit.false);
+      uncleared = cell_uncleared g here;
+      wants = inr (no_unit_edge c.count-n.result (g.S.Surface.bounds c.args.surface.now).count (region_of c.in-Some.half.cell) c.edge_to_halve-edge.result c.is_unit.result
+          (sym c.count-n.ensures.value) c.edge_to_halve-edge.ensures.named c.is_unit.ensures.value c.if-is_unit.false);
     }) c.close-low-then-is_spent-2.ensures.closes)
 
 pub returns-clause-searched : goal.returns-clause-searched
-returns-clause-searched c =
-    let case = c.args.params.now.case in
+returns-clause-searched g c =
     let delta = back c.args.delta (omega (arith, ints, c.requires.delta_low, c.requires.delta_high)) in
-    ended (numbers_of case) c.args.plane.now.lam c.args.delta (to_z w128 c.loop-cell.low-bits) c.args.letters.now.items c.loop-cell.letters.items c.loop-cell.letters.items
-    (c.loop-cell.units.spent - c.args.units.now.spent) (c.loop-cell.units.spent - c.args.units.now.spent) c.loop-cell.stack [] (AllClear (to_z w128 c.loop-cell.low-bits)) c.in_default.ensures.none refl
-    (sym (append-nil c.loop-cell.letters.items)) (omega arith)
-    (λ t before e over reached. low_clear (numbers_of case) c.args.plane.now.lam (to_z w128 c.loop-cell.low-bits) t (root_region (numbers_of case).count) before (root_meets (numbers_of case).count (omega (arith, count_of case, case.few))) e over reached)
-    (rw delta at c.loop-cell.invariant.so_far)
+    ended (under (g.S.Surface.bounds c.args.surface.now) c.args.plane.now.lam c.args.delta) (to_z w128 c.loop-half.low-bits) c.args.letters.now.items c.loop-half.letters.items c.loop-half.letters.items
+    (c.loop-half.units.spent - c.args.units.now.spent) (c.loop-half.units.spent - c.args.units.now.spent) c.loop-half.stack.regions [] (AllClear (to_z w128 c.loop-half.low-bits)) c.in_default.ensures.none refl
+    (sym (append-nil c.loop-half.letters.items)) (omega arith)
+    (λ t before e over reached. low_clear (g.S.Surface.bounds c.args.surface.now) c.args.plane.now.lam (to_z w128 c.loop-half.low-bits) t (root_region (g.S.Surface.bounds c.args.surface.now).count) before (root_meets (g.S.Surface.bounds c.args.surface.now).count (omega (arith, c.count-n.ensures.value, c.count-n.ensures.four))) e over reached)
+    (rw delta at c.loop-half.invariant.so_far)
+
+pub returns-in-Some-refuting-clause-pure : goal.returns-in-Some-refuting-clause-pure
+returns-in-Some-refuting-clause-pure g c =
+    λ one. middle_pure (g.S.Surface.bounds c.args.surface.now).count (region_of c.in-Some.half.cell) (point_of c.in-Some-refuting.column) one
+    (sym (rw c.middle_of-middle.ensures.at at c.in-Some-refuting.ensures.middle))

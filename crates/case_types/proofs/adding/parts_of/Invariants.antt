@@ -1,6 +1,6 @@
 use Rattle.std.proofs.Common.{ℕ, ◌≡◌, ◌+◌, ◌*◌, ◌^◌, ◌≤◌, List, drop, map}
 use Rattle.case_types.specs.declared.phases.Phase.{Phase}
-use Rattle.case_types.specs.Divisions.{parts_in, state_of}
+use Rattle.case_types.specs.Energy.Divisions.{parts_in, state_of}
 use Rattle.case_types.proofs.adding.parts_of.Given as goal
 
 -- what is counted, with what is left, is the whole

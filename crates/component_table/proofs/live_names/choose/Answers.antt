@@ -1,4 +1,4 @@
-use Rattle.std.proofs.Common.{◌≡◌, ◌∙◌, ◌∷◌, ◌+◌, ◌<◌, ◌≤◌, ℕ, List, [], length, map, get_or, drop, take, sym, ap, arith, refl}
+use Rattle.std.proofs.Common.{◌≡◌, ◌∙◌, ◌∷◌, ◌+◌, ◌<◌, ◌≤◌, ℕ, List, [], length, map, get_or, drop, take, sym, subst, ap, arith, refl}
 use Rattle.std.specs.List.{sum}
 use Rattle.std.proofs.lemmas.List.{length-map, get_or-map, take_more, take_all}
 use Rattle.std.proofs.lemmas.List.Sums.{sum_by-take-le, sum_by-append}
@@ -7,8 +7,10 @@ use Rattle.case_words.specs.Names.{text_of}
 use Rattle.component_table.specs.Rows.{plain_row}
 use Rattle.component_table.specs.Tables.{index_in}
 use Rattle.component_table.specs.Choosing.{PlainChosen, with_part, with_names}
+use Rattle.component_table.specs.Rising.{AreRisingBelow}
 use Rattle.component_table.specs.Chosens.{plain_chosen}
 use Rattle.component_table.proofs.Choices.{names-more, names-stop, names-end}
+use Rattle.component_table.proofs.Rising.{rising-none, rising-part, rising-fewer}
 use Rattle.component_table.proofs.live_names.choose.Goals as goal
 
 sum-more : (z : List ℕ) (i : ℕ) → i < length z → sum (take (i + 1) z) ≡ sum (take i z) + get_or z i 0
@@ -22,6 +24,7 @@ loop-i-init c =
       few = omega (arith, none);
       total = c.new-chosen.ensures.total;
       live = rw (c.new-chosen.ensures.exact, c.new-chosen.ensures.total) (record { lives = refl; as_many = refl; added = refl; positive = refl });
+      rising = subst (λ (m : PlainChosen). AreRisingBelow 0 m.live) (sym c.new-chosen.ensures.exact) rising-none;
     }
 
 pub returns-then-index-comps-clause-exact : goal.returns-then-index-comps-clause-exact
@@ -65,6 +68,8 @@ loop-i-preserved c =
       few = omega (arith, c.take.ensures.few, c.loop-i.invariant.few);
       total = omega (arith, c.take.ensures.total, c.loop-i.invariant.total, part, sum-more z c.loop-i.i in_z);
       live = c.take.ensures.live;
+      rising = subst (λ (m : PlainChosen). AreRisingBelow (c.loop-i.i + 1) m.live) (sym c.take.ensures.exact)
+          (rising-part c.loop-i.i (plain_chosen c.loop-i.chosen) (c.index_of-index.result + 1) (get_or c.as_slice-parts.result.now c.loop-i.i 0) c.loop-i.invariant.rising);
     }
 
 pub returns-clause-exact : goal.returns-clause-exact
@@ -79,3 +84,8 @@ returns-clause-total c =
     let z = c.args.job.now.z.items in
     let end : length z ≤ c.loop-i.i = omega (arith, c.loop-i-test.false, ap length c.as_slice-names.ensures.value, c.args.job.now.as_many) in
     c.loop-i.invariant.total ∙ ap sum (take_all c.loop-i.i z end)
+
+pub returns-clause-rising : goal.returns-clause-rising
+returns-clause-rising c =
+    rising-fewer c.loop-i.i (length c.args.job.now.names.items) c.loop-i.chosen.live.items
+    (omega (arith, c.loop-i.auto, ap length c.as_slice-names.ensures.value)) c.loop-i.invariant.rising

@@ -3,6 +3,7 @@ use Rattle.std.specs.List.{sum}
 use Rattle.case_words.specs.Names.{text_of}
 use Rattle.component_table.specs.Rows.{plain_row}
 use Rattle.component_table.specs.Choosing.{with_names, none_chosen, IsLive}
+use Rattle.component_table.specs.Rising.{AreRisingBelow}
 use Rattle.component_table.specs.Chosens.{plain_chosen}
 use Rattle.component_table.proofs.live_names.choose.Given as goal
 
@@ -13,4 +14,5 @@ invariant-loop-i l = record {
   few : length l.chosen.parts.items ≤ l.i;
   total : l.chosen.total ≡ sum (take l.i l.job.z.items);
   live : IsLive (plain_chosen l.chosen) l.chosen.total;
+  rising : AreRisingBelow l.i l.chosen.live.items;
 }

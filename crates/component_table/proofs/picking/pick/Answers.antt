@@ -1,8 +1,9 @@
 use Rattle.std.proofs.Common.{◌≡◌, ◌∙◌, ◌≤◌, ℕ, List, length, map, get_or, sym, ap, arith, refl, true}
-use Rattle.std.specs.Prelude.{nat_le}
+use Rattle.std.specs.Prelude.{nat_le, nat_lt}
 use Rattle.std.specs.List.{list_all}
 use Rattle.log_laws.specs.Sums.{all_below, sum_below}
 use Rattle.case_types.specs.Ranges.{are_interactions}
+use Rattle.case_types.specs.declared.cases.Name.{Name}
 use Rattle.case_types.specs.declared.cases.Row.{Row}
 use Rattle.case_words.specs.Names.{text_of}
 use Rattle.component_table.specs.declared.rows.PairRow.{PairRow}
@@ -81,7 +82,13 @@ returns-clause-picked c =
         total = c.in-Ok.ensures.total;
         temperature = refl;
         pressure = refl;
+        edition = refl;
       };
       live = refl;
       names = ap (map text_of) (c.copy_of.ensures ∙ c.as_slice-3.ensures.value);
     }
+
+pub invariant_of-result-2-clause-placed : goal.invariant_of-result-2-clause-placed
+invariant_of-result-2-clause-placed c =
+    let names = c.copy_of.ensures ∙ c.as_slice-3.ensures.value in
+    ap (λ (ns : List Name). list_all (λ (k : ℕ). nat_lt k (length ns)) c.in-Ok.chosen.live.items) names ∙ c.in-Ok.ensures.rising.below

@@ -1,10 +1,11 @@
 use Rattle.std.proofs.Common.{Bor, List, ℕ, ◌∙◌, sym, refl, inl, inr, Some, ◌∷◌, [], arith, ◌++◌, ◌+◌, ap}
-use Rattle.std.proofs.lemmas.List.{length_push}
+use Rattle.std.proofs.lemmas.List.{length_push, length-map}
 use Rattle.csv.specs.Reading.{Reached, default_config, strip_bom}
 use Rattle.csv.specs.Records.{fields_of}
 use Rattle.csv.specs.declared.parser.State.TheVariants as st
 use Rattle.csv.proofs.ReadFacts.{rows-end, rows-more}
 use Rattle.component_table.specs.Tables.{with_records, nothing}
+use Rattle.component_table.specs.Rows.{plain_row}
 use Rattle.component_table.specs.Views.{drafted}
 use Rattle.component_table.proofs.Kept.{kept-records, kept-nothing}
 use Rattle.component_table.proofs.Reached.{few, faulty, complete, no_record, grows}
@@ -86,4 +87,17 @@ pub invariant_of-result : goal.invariant_of-result
 invariant_of-result c =
     let inv = c.loop-record.invariant in
     let kept = kept-records 1 nothing (drafted c.loop-record.draft) inv.6 inv.8 kept-nothing in
-    record { few = inv.10; rows = kept.rows; interactions = kept.interactions }
+    let comps = c.loop-record.draft.comps.items in
+    let count = length-map comps plain_row in
+    record {
+      few = inv.10;
+      rows = kept.rows;
+      named = kept.named;
+      names = kept.names;
+      interactions = kept.interactions;
+      pair_places = rw count at kept.pair_places;
+      once = kept.once;
+      coefficients = kept.coefficients;
+      cp_places = rw count at kept.cp_places;
+      cp_once = kept.cp_once;
+    }

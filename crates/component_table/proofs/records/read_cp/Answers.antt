@@ -2,7 +2,7 @@ use Rattle.std.proofs.Common.{ap, sym, ◌∙◌, Ok, Err, ℤ, List}
 use Rattle.std.proofs.lemmas.Result.{err_from_is_err_and}
 use Rattle.csv.specs.Records.{fields_of}
 use Rattle.case_words.specs.Names.{text_of}
-use Rattle.case_words.proofs.Steps.{answers-fault}
+use Rattle.case_words.proofs.Exports.{answers-fault}
 use Rattle.component_table.specs.Records.{cp_of, PlainCp}
 use Rattle.component_table.specs.Views.{plain_record}
 use Rattle.component_table.proofs.Signed.{four-back}

@@ -2,7 +2,7 @@ use Rattle.std.proofs.Common.{ℕ, List, sym, ap, ◌∙◌}
 use Rattle.std.specs.Prelude.{codes}
 use Rattle.std.specs.Str.{bytes_eq}
 use Rattle.csv.specs.Records.{fields_of}
-use Rattle.case_words.proofs.Steps.{answers-same}
+use Rattle.case_words.proofs.Exports.{answers-same}
 use Rattle.component_table.specs.Records.{record_of, comp_of, pair_of, cp_of}
 use Rattle.component_table.specs.Views.{plain_record}
 use Rattle.component_table.proofs.Taking.{record-fields, record-utf8, record-comp, record-pair, record-cp, record-kind}

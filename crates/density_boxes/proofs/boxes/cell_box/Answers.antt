@@ -1,5 +1,5 @@
 use Rattle.std.proofs.Common.{◌≡◌}
-use Rattle.case_types.specs.Cells.{region_of, box_of_region}
+use Rattle.case_types.specs.Grid.Cells.{region_of, box_of_region}
 use Rattle.density_boxes.proofs.Spread.{scaled-spread, is_box, is_box_by_ends}
 use Rattle.density_boxes.proofs.boxes.cell_box.Goals as goal
 

@@ -1,5 +1,5 @@
 use Rattle.std.proofs.Common.{◌-◌, refl, sym, ◌∙◌, inl, arith}
-use Rattle.case_types.specs.Cells.{region_of, edge_to_halve as named_edge}
+use Rattle.case_types.specs.Grid.Cells.{region_of, edge_to_halve as named_edge}
 use Rattle.density_boxes.proofs.Widest.{wide_fraction}
 use Rattle.density_boxes.proofs.edges.edge_to_halve.Goals as goal
 

@@ -1,6 +1,6 @@
 use Rattle.std.proofs.Common.{◌≡◌, ◌*◌, ◌^◌, true}
 use Rattle.std.specs.Prelude.{nat_le}
-use Rattle.case_types.specs.Cells.{region_of, edge_length}
+use Rattle.case_types.specs.Grid.Cells.{region_of, edge_length}
 use Rattle.log_laws.specs.Sums.{all_below}
 use Rattle.density_boxes.proofs.edges.is_packing_wide.Given as goal
 

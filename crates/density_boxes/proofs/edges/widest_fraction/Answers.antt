@@ -1,5 +1,5 @@
 use Rattle.std.proofs.Common.{◌<◌, ◌≤◌, arith, add-one, ◌∙◌}
-use Rattle.case_types.specs.Cells.{region_of, edge_length, widest_below}
+use Rattle.case_types.specs.Grid.Cells.{region_of, edge_length, widest_below}
 use Rattle.density_boxes.proofs.Widest.{widest_none, widest_next, widest_stays}
 use Rattle.density_boxes.proofs.edges.widest_fraction.Goals as goal
 use Rattle.density_boxes.proofs.edges.widest_fraction.Goals.{then-length_of, else-length_of}

@@ -1,5 +1,5 @@
 use Rattle.std.proofs.Common.{◌≡◌, ◌≤◌}
-use Rattle.case_types.specs.Cells.{region_of, widest_below}
+use Rattle.case_types.specs.Grid.Cells.{region_of, widest_below}
 use Rattle.density_boxes.proofs.edges.widest_fraction.Given as goal
 
 abbrev pub invariant-loop-edge : goal.invariant-loop-edge

@@ -1,5 +1,5 @@
 use Rattle.std.proofs.Common.{◌<◌, ◌^◌, length, arith}
-use Rattle.case_types.specs.Cells.{region_of}
+use Rattle.case_types.specs.Grid.Cells.{region_of}
 use Rattle.density_boxes.proofs.Halvings.{fewer_below_cut, fewer_above_cut}
 use Rattle.density_boxes.proofs.Lists.{up_to_at}
 use Rattle.density_boxes.proofs.halves.halve_fraction.Goals as goal

@@ -1,4 +1,4 @@
-use Rattle.case_types.specs.Cells.{region_of}
+use Rattle.case_types.specs.Grid.Cells.{region_of}
 use Rattle.density_boxes.proofs.Halvings.{fewer_in_lower_packing, fewer_in_upper_packing}
 use Rattle.density_boxes.proofs.halves.halve_packing.Goals as goal
 

@@ -1,6 +1,6 @@
 use Rattle.std.proofs.Common.{arith}
 use Rattle.std.proofs.lemmas.Int.{ints}
-use Rattle.fix_interval.specs.Interval.{ends_of}
+use Rattle.log_laws.specs.Interval.{ends_of}
 use Rattle.fix_interval.proofs.Between.{IsBetween-sum_of}
 use Rattle.fix_interval.proofs.ops.add.Goals as goal
 

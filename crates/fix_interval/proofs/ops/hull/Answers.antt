@@ -1,7 +1,7 @@
 use Rattle.std.proofs.Common.{arith, inl, inr}
 use Rattle.std.specs.Int.{int_min, int_max}
 use Rattle.std.proofs.lemmas.Int.{ints, clamps}
-use Rattle.fix_interval.specs.Interval.{ends, ends_of}
+use Rattle.log_laws.specs.Interval.{ends, ends_of}
 use Rattle.fix_interval.proofs.Between.{IsBetween-wider}
 use Rattle.fix_interval.proofs.ops.hull.Goals as goal
 

@@ -1,7 +1,7 @@
 use Rattle.std.proofs.Common.{arith, ◌^◌}
 use Rattle.std.proofs.lemmas.Nat.{pow_pos}
 use Rattle.log_laws.proofs.Exports.{back}
-use Rattle.fix_interval.specs.Interval.{ends_of}
+use Rattle.log_laws.specs.Interval.{ends_of}
 use Rattle.fix_interval.proofs.Between.{IsBetween-product_of}
 use Rattle.fix_interval.proofs.products.mul_ends.Goals as goal
 

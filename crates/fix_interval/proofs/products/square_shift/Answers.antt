@@ -3,7 +3,7 @@ use Rattle.std.proofs.lemmas.Nat.{pow_pos}
 use Rattle.log_laws.specs.Whole.{floor_over, ceil_over}
 use Rattle.log_laws.proofs.Exports.{back}
 use Rattle.fix_interval.specs.Extremes.{least_square, greatest_square}
-use Rattle.fix_interval.specs.Interval.{ends_of}
+use Rattle.log_laws.specs.Interval.{ends_of}
 use Rattle.fix_interval.proofs.Between.{IsBetween-square}
 use Rattle.fix_interval.proofs.Nearest.{floor_square_zero}
 use Rattle.fix_interval.proofs.products.square_shift.Goals as goal

@@ -3,7 +3,7 @@ use Rattle.std.proofs.lemmas.Int.{ints, clamps}
 use Rattle.log_laws.proofs.Exports.{back}
 use Rattle.log_laws.proofs.Exports.{mul-le_ℤ}
 use Rattle.log_laws.specs.Whole.{floor_div, ceil_div}
-use Rattle.fix_interval.specs.Interval.{ends_of}
+use Rattle.log_laws.specs.Interval.{ends_of}
 use Rattle.fix_interval.proofs.Between.{IsBetween-quotient_of}
 use Rattle.fix_interval.proofs.Cancel.{floor_over-le-ceil_over}
 use Rattle.fix_interval.proofs.Wrapped.{scaled_is, least_quotient_is, greatest_quotient_is, lesser-le-greater}

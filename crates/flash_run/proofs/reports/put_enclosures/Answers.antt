@@ -1,6 +1,6 @@
 use Rattle.std.proofs.Common.{rules, length, ◌<◌, codes, ap}
 use Rattle.log_laws.specs.Between.{Ends}
-use Rattle.case_types.specs.Printed.{enclosures_in}
+use Rattle.case_types.specs.Energy.Printed.{enclosures_in}
 use Rattle.flash_run.specs.Pieces.{ends_line}
 use Rattle.flash_run.specs.ReportText.{temperature_text, pressure_text}
 use Rattle.flash_run.proofs.Regroup.{adds-then, adds-as, adds-nothing}

@@ -2,8 +2,8 @@ use Rattle.std.proofs.Common.{◌≤◌, inr, refl, arith}
 use Rattle.component_table.specs.Views.{held_by}
 use Rattle.flash_run.proofs.top.judge.Goals as goal
 
-pub returns-then-picked-ne1 : goal.returns-then-picked-ne1
-returns-then-picked-ne1 c =
+pub returns-then-picked-ne1-clause-cause : goal.returns-then-picked-ne1-clause-cause
+returns-then-picked-ne1-clause-cause c =
     let picked = c.in-Ok-pick.picked in
     let some : 1 ≤ picked.case.n = picked.case.some in
     record {
@@ -17,8 +17,8 @@ returns-then-picked-ne1 c =
       more = omega (arith, c.if-picked-ne1.true, some);
     }
 
-pub returns-in-Err-params : goal.returns-in-Err-params
-returns-in-Err-params c = inr (record {
+pub returns-in-Err-params-clause-cause : goal.returns-in-Err-params-clause-cause
+returns-in-Err-params-clause-cause c = inr (record {
   picked = c.in-Ok-pick.picked;
   case_is = record {
     held = held_by c.in-Ok.table;

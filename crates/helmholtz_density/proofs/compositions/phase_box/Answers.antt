@@ -1,9 +1,9 @@
 use Rattle.std.proofs.Common.{◌≡◌, [], ◌∷◌, refl, sym, subst}
 use Rattle.log_laws.specs.Sums.{list_below}
-use Rattle.case_types.specs.Bounds.{Box, box_of_parts}
-use Rattle.case_types.specs.Divisions.{state_of}
-use Rattle.case_types.specs.Holding.{IsInBox}
-use Rattle.helmholtz_density.proofs.BoxOfParts.{IsBox, in_box_of_parts, parts_box}
+use Rattle.case_types.specs.Arithmetic.Bounds.{Box, box_of_parts}
+use Rattle.case_types.specs.Energy.Divisions.{state_of}
+use Rattle.case_types.specs.Arithmetic.Holding.{IsInBox}
+use Rattle.case_types.proofs.Exports.{IsBox, in_box_of_parts, parts_box}
 use Rattle.helmholtz_density.proofs.compositions.phase_box.Goals as goal
 use Rattle.helmholtz_density.proofs.compositions.phase_box.Goals.{After-fraction_ends-fourth}
 

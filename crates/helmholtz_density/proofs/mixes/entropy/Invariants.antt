@@ -1,6 +1,6 @@
 use Rattle.std.proofs.Common.{◌≡◌, ◌*◌, ◌^◌, ◌≤◌, unsigned_abs, slice_index}
 use Rattle.log_laws.specs.Sums.{sum_below, int_sum_below}
-use Rattle.case_types.specs.Bounds.{mixing_up}
+use Rattle.case_types.specs.Arithmetic.Bounds.{mixing_up}
 use Rattle.helmholtz_density.proofs.mixes.entropy.Given as goal
 
 abbrev pub invariant-loop-i : goal.invariant-loop-i

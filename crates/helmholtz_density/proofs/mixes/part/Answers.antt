@@ -1,8 +1,7 @@
 use Rattle.std.proofs.Common.{◌≤◌, ◌*◌, ◌^◌, pos, ◌*ℤ◌, unsigned_abs, arith}
 use Rattle.std.specs.Int.{w128}
 use Rattle.std.proofs.lemmas.Int.{ints, to_z_pos}
-use Rattle.log_laws.proofs.Exports.{back}
-use Rattle.pr_params.proofs.Signed.{product_at_most}
+use Rattle.log_laws.proofs.Exports.{back, product_at_most}
 use Rattle.helmholtz_density.proofs.mixes.part.Goals as goal
 
 pub returns-clause-small : goal.returns-clause-small

@@ -1,12 +1,12 @@
 use Rattle.std.proofs.Common.{ℕ, ◌≡◌, ◌<◌, ◌≤◌, ◌+◌, ◌*◌, ◌^◌, ℤ, ◌+ℤ◌, unsigned_abs, to_z, of_z, [], subst, sym, arith}
 use Rattle.std.proofs.lemmas.Int.{ints}
 use mir.Syntax.{w128}
-use Rattle.case_types.specs.Numbers.{numbers_of}
-use Rattle.pr_params.proofs.Sized.{count_of}
+use Rattle.case_types.specs.Arithmetic.Numbers.{numbers_of}
 use Rattle.helmholtz_density.proofs.Parts.{phase_of, sum_step, sum_end}
 use Rattle.log_laws.specs.LogSum.{AtMost}
-use Rattle.case_types.specs.Bounds.{split_up}
-use Rattle.case_types.specs.Divisions.{energy_of_division, division_of, bits}
+use Rattle.case_types.specs.Arithmetic.Bounds.{energy_up}
+use Rattle.case_types.specs.Arithmetic.Splits.{split_up}
+use Rattle.case_types.specs.Energy.Divisions.{energy_of_division, division_of, bits}
 use Rattle.helmholtz_density.proofs.SplitHigh.{split_at_most}
 use Rattle.helmholtz_density.proofs.splits.split_energy.Goals as goal
 use Rattle.helmholtz_density.proofs.splits.split_energy.Goals.{After-loop-phase}
@@ -49,18 +49,17 @@ loop-phase-preserved c =
     let f = fits (to_z w128 c.loop-phase.energy-bits) c.weighed_energy-energy.result c.loop-phase.phase-index few k.small c.weighed_energy-energy.ensures.small in
     let v = rw e at c.weighed_energy-energy.ensures.value in
     rw f.0 (record {
-      whole = sum_step (numbers_of c.args.params.now.case) c.args.split.now.sum c.args.params.now.case.n c.args.split.now.phases.items c.loop-phase.phase-index
-          (record { parts = []; packing = 0 }) (to_z w128 c.loop-phase.energy-bits) c.weighed_energy-energy.result
-          (count_of c.args.params.now.case) l k.whole v;
+      whole = sum_step c.args.params.now.case.n (energy_up (numbers_of c.args.params.now.case)) c.args.split.now.sum c.args.split.now.phases.items c.loop-phase.phase-index
+          (record { parts = []; packing = 0 }) (to_z w128 c.loop-phase.energy-bits) c.weighed_energy-energy.result l k.whole v;
       small = f.1;
     })
 
 -- the sum is that of the definition
-value_is : (c : After-loop-phase) → to_z w128 c.loop-phase.energy-bits ≡ split_up (numbers_of c.args.params.now.case) c.args.split.now
+value_is : (c : After-loop-phase) → to_z w128 c.loop-phase.energy-bits ≡ split_up c.args.params.now.case.n (energy_up (numbers_of c.args.params.now.case)) c.args.split.now
 value_is c =
     let e = c.deref-phase-items.ensures.0 in
     let l = rw e at c.loop-phase-test.false in
-    sum_end (numbers_of c.args.params.now.case) c.args.split.now.sum c.args.split.now.phases.items c.loop-phase.phase-index
+    sum_end c.args.params.now.case.n (energy_up (numbers_of c.args.params.now.case)) c.args.split.now.sum c.args.split.now.phases.items c.loop-phase.phase-index
     (to_z w128 c.loop-phase.energy-bits) l c.loop-phase.invariant.whole
 
 pub returns-clause-value : goal.returns-clause-value

@@ -1,53 +1,18 @@
-use Rattle.std.proofs.Common.{◌≡◌, ◌*◌, ◌^◌, ◌≤◌, ◌<◌, pos, ℕ, ◌-◌, ◌+ℤ◌, ◌-ℤ◌, ◌*ℤ◌, sym, ◌∙◌, subst, ap, arith}
-use mir.Syntax.{w128}
-use mir.Val.{to_z, of_z}
-use Rattle.log_laws.specs.Squaring.{IsNormal, down, exponent}
-use Rattle.log_enclose.proofs.Squares.{down_le}
-use Rattle.log_enclose.proofs.Logs.{exponent_is, normal_of, shifted, lo_at_least, lo_value, value_small, log_down_is}
-use Rattle.log_enclose.proofs.Bounds.{log_down_power_low, log_down_power_high}
+use Rattle.std.proofs.Common.{sym, ◌∙◌, refl, arith}
+use Rattle.log_laws.proofs.Exports.{back}
+use Rattle.log_enclose.proofs.Logs.{log_down_is}
+use Rattle.log_enclose.proofs.Bounds.{log_down_at_least, log_down_power_low, log_down_power_high, small_fits}
 use Rattle.log_enclose.proofs.ends.log2_lo.Goals as goal
-use Rattle.log_enclose.proofs.ends.log2_lo.Goals.{After-log2_down-digits}
-
-pub overflow_sub-exponent-2 : goal.overflow_sub-exponent-2
-overflow_sub-exponent-2 c = (exponent_is c.args.n c.requires.positive c.requires.below).2
-
-normal : (n : ℕ) → 1 ≤ n → n < 2 ^ 62 → IsNormal (n * 2 ^ (61 - exponent n))
-normal n h l = let e = exponent_is n h l in normal_of n (exponent n) e.0 e.1 e.2
-
-pub log2_down-digits-requires-clause-normal : goal.log2_down-digits-requires-clause-normal
-log2_down-digits-requires-clause-normal c =
-    let n = normal c.args.n c.requires.positive c.requires.below in
-    let e = shifted c.args.n (exponent c.args.n) n in
-    subst IsNormal (sym e) n
-
--- what the code computes, and the digits in it
-value_is : (c : After-log2_down-digits) →
-    to_z w128 (of_z w128 (to_z w128 (of_z w128 (to_z w128 (of_z w128 (to_z w128 (exponent c.args.n) -ℤ to_z w128 c.args.scale)) *ℤ pos 1099511627776)) +ℤ to_z w128 c.log2_down-digits.result))
-    ≡ (pos (exponent c.args.n) -ℤ pos c.args.scale) *ℤ pos (2 ^ 40) +ℤ pos c.log2_down-digits.result
-value_is c =
-    lo_value (exponent c.args.n) c.args.scale c.log2_down-digits.result (exponent_is c.args.n c.requires.positive c.requires.below).2 c.requires.scaled (omega (arith, c.log2_down-digits.ensures.small))
-
-digits_are : (c : After-log2_down-digits) → c.log2_down-digits.result ≡ down (c.args.n * 2 ^ (61 - exponent c.args.n)) 40
-digits_are c =
-    c.log2_down-digits.ensures.value
-    ∙ ap (λ (m : ℕ). down m 40) (shifted c.args.n (exponent c.args.n) (normal c.args.n c.requires.positive c.requires.below))
 
 pub returns-clause-value : goal.returns-clause-value
 returns-clause-value c =
-    value_is c ∙ ap (λ (d : ℕ). (pos (exponent c.args.n) -ℤ pos c.args.scale) *ℤ pos (2 ^ 40) +ℤ pos d) (digits_are c)
+    let small = small_fits c.joined.result c.joined.ensures.small in
+    back c.joined.result (omega (arith, small)) ∙ c.joined.ensures.value
+    ∙ (rw (c.log2_down.ensures.value, c.parts_of-exponent.ensures.exponent, c.parts_of-exponent.ensures.mantissa) refl)
     ∙ sym (log_down_is c.args.n c.args.scale)
 
 pub returns-clause-at_least : goal.returns-clause-at_least
-returns-clause-at_least c =
-    let n = normal c.args.n c.requires.positive c.requires.below in
-    lo_at_least c.args.n c.args.scale (exponent c.args.n) c.log2_down-digits.result _
-    c.requires.positive (exponent_is c.args.n c.requires.positive c.requires.below).2 (value_is c)
-    (subst (λ (d : ℕ). 2 ^ d * (2 ^ 61) ^ (2 ^ 40) ≤ (c.args.n * 2 ^ (61 - exponent c.args.n)) ^ (2 ^ 40)) (sym (digits_are c))
-    (down_le (c.args.n * 2 ^ (61 - exponent c.args.n)) 40 n))
-
-pub returns-clause-small : goal.returns-clause-small
-returns-clause-small c =
-    value_small (exponent c.args.n) c.args.scale c.log2_down-digits.result _ (exponent_is c.args.n c.requires.positive c.requires.below).2 c.requires.scaled (omega (arith, c.log2_down-digits.ensures.small)) (value_is c)
+returns-clause-at_least c = rw (returns-clause-value c) (log_down_at_least c.args.n c.args.scale c.requires.positive c.requires.below)
 
 pub returns-clause-from_power : goal.returns-clause-from_power
 returns-clause-from_power c k h =

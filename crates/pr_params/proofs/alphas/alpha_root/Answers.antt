@@ -2,7 +2,8 @@ use Rattle.std.proofs.Common.{arith, unsigned_abs, ◌<◌, ◌≡◌, ◌^◌, 
 use Rattle.std.specs.Int.{int_min, int_max, w128}
 use Rattle.std.proofs.lemmas.Int.{ints, clamps}
 use Rattle.log_laws.specs.Whole.{floor_over, ceil_over}
-use Rattle.fix_interval.proofs.Cancel.{floor_over-le-ceil_over}
+use Rattle.case_types.specs.Energy.Parameters.{kappa_scale}
+use Rattle.fix_interval.proofs.Exports.{floor_over-le-ceil_over}
 use Rattle.pr_params.proofs.Alpha.{lo_value, hi_value, min-le-max}
 use Rattle.pr_params.proofs.alphas.alpha_root.Goals as goal
 use Rattle.pr_params.proofs.alphas.alpha_root.Goals.{After-unscaled_ceil}
@@ -14,13 +15,13 @@ hi_small : (c : After-unscaled_ceil) → unsigned_abs c.args.root.hi < 2 ^ 53
 hi_small c = omega (arith, ints, c.requires.root_low, c.requires.root_high, c.args.root.ordered)
 
 -- the floor and the ceiling that the code computes
-floor_is : (c : After-unscaled_ceil) → c.unscaled_floor.result ≡ floor_over (int_min (c.args.kappa *ℤ (pos (2 ^ 48) -ℤ c.args.root.lo)) (c.args.kappa *ℤ (pos (2 ^ 48) -ℤ c.args.root.hi))) (10 ^ 13)
+floor_is : (c : After-unscaled_ceil) → c.unscaled_floor.result ≡ floor_over (int_min (c.args.kappa *ℤ (pos (2 ^ 48) -ℤ c.args.root.lo)) (c.args.kappa *ℤ (pos (2 ^ 48) -ℤ c.args.root.hi))) kappa_scale
 floor_is c =
     lo_value c.args.kappa c.args.root.lo c.args.root.hi c.slope_at-at_lo.result c.slope_at-at_hi.result c.min.result c.unscaled_floor.result
     c.requires.kappa (lo_small c) (hi_small c) c.slope_at-at_lo.ensures.value c.slope_at-at_lo.ensures.small
     c.slope_at-at_hi.ensures.value c.slope_at-at_hi.ensures.small c.min.ensures.value c.unscaled_floor.ensures.value
 
-ceiling_is : (c : After-unscaled_ceil) → c.unscaled_ceil.result ≡ ceil_over (int_max (c.args.kappa *ℤ (pos (2 ^ 48) -ℤ c.args.root.lo)) (c.args.kappa *ℤ (pos (2 ^ 48) -ℤ c.args.root.hi))) (10 ^ 13)
+ceiling_is : (c : After-unscaled_ceil) → c.unscaled_ceil.result ≡ ceil_over (int_max (c.args.kappa *ℤ (pos (2 ^ 48) -ℤ c.args.root.lo)) (c.args.kappa *ℤ (pos (2 ^ 48) -ℤ c.args.root.hi))) kappa_scale
 ceiling_is c =
     hi_value c.args.kappa c.args.root.lo c.args.root.hi c.slope_at-at_lo.result c.slope_at-at_hi.result c.max.result c.unscaled_ceil.result
     c.requires.kappa (lo_small c) (hi_small c) c.slope_at-at_lo.ensures.value c.slope_at-at_lo.ensures.small
@@ -55,7 +56,7 @@ pub invariant_of-result : goal.invariant_of-result
 invariant_of-result c =
     let a = c.args.kappa *ℤ (pos (2 ^ 48) -ℤ c.args.root.lo) in
     let b = c.args.kappa *ℤ (pos (2 ^ 48) -ℤ c.args.root.hi) in
-    let order = floor_over-le-ceil_over (int_min a b) (int_max a b) (10 ^ 13) (lit< tt) (min-le-max a b) in
+    let order = floor_over-le-ceil_over (int_min a b) (int_max a b) kappa_scale (lit< tt) (min-le-max a b) in
     let o : c.unscaled_floor.result ≤ℤ c.unscaled_ceil.result = rw (floor_is c, ceiling_is c) order in
     record {
       ordered = omega (arith, ints);

@@ -1,21 +1,24 @@
-use Rattle.std.proofs.Common.{arith}
+use Rattle.std.proofs.Common.{SFits, rules, arith, ap, ◌∙◌, sym}
 use Rattle.std.specs.Int.{w32}
-use Rattle.std.proofs.lemmas.Int.{ints, to_z-of_z}
+use Rattle.std.proofs.lemmas.Int.{to_z-of_z}
+use Rattle.case_types.specs.Energy.Parameters.{kappa_of}
 use Rattle.log_laws.proofs.Exports.{back}
-use Rattle.pr_params.proofs.Alpha.{kappa_small, kappa_read}
+use Rattle.pr_params.proofs.Alpha.{kappa_above, kappa_up_to}
 use Rattle.pr_params.proofs.alphas.kappa.Goals as goal
 
-pub returns-clause-value : goal.returns-clause-value
-returns-clause-value c =
-    let narrow = to_z-of_z w32 c.args.w c.ranges.w in
-    let wide = back c.args.w (omega (arith, ints, c.requires.low, c.requires.high)) in
-    let inner = back c.times.result (omega (arith, c.times.ensures.small)) in
-    kappa_read c.args.w c.times.result c.times-slope.result c.times-bend.result c.times-slope.ensures.small c.times-bend.ensures.small
-    (rw (narrow, wide) at c.times-slope.ensures.value) (rw (narrow, wide) at c.times.ensures.value)
-    (rw (inner, narrow, wide) at c.times-bend.ensures.value)
+pub returns-then-row-gt4900-clause-value : goal.returns-then-row-gt4900-clause-value
+returns-then-row-gt4900-clause-value c =
+    let w = c.args.row.now.w in
+    let fits : SFits w32 w = search rules in
+    let narrow = to_z-of_z w32 w fits in
+    back c.kappa_1978.result (omega (arith, c.kappa_1978.ensures.small)) ∙ (rw narrow at c.kappa_1978.ensures.value)
+    ∙ sym (kappa_above w (rw narrow at c.if-row-gt4900.true)) ∙ ap (λ e. kappa_of e w) (sym c.in-Y1978.is)
 
-pub returns-clause-small : goal.returns-clause-small
-returns-clause-small c = rw (returns-clause-value c) (kappa_small c.args.w c.requires.low c.requires.high)
-
-pub overflow_sub-result : goal.overflow_sub-result
-overflow_sub-result c = omega (arith, ints, c.times-slope.ensures.small, c.times-bend.ensures.small)
+pub returns-else-row-gt4900-clause-value : goal.returns-else-row-gt4900-clause-value
+returns-else-row-gt4900-clause-value c =
+    let w = c.args.row.now.w in
+    let fits : SFits w32 w = search rules in
+    let narrow = to_z-of_z w32 w fits in
+    let own = c.kappa_1976-else-row-gt4900 in
+    back own.result (omega (arith, own.ensures.small)) ∙ (rw narrow at own.ensures.value)
+    ∙ sym (kappa_up_to w (rw narrow at c.if-row-gt4900.false)) ∙ ap (λ e. kappa_of e w) (sym c.in-Y1978.is)

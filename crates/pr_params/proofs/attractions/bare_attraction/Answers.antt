@@ -1,6 +1,7 @@
 use Rattle.std.proofs.Common.{◌+◌, ◌*◌, ◌^◌, arith}
 use Rattle.std.proofs.lemmas.Int.{ints}
-use Rattle.pr_params.proofs.Sizes.{ceiling_at_most, quotients_ordered}
+use Rattle.log_laws.proofs.Exports.{ceiling_at_most}
+use Rattle.pr_params.proofs.Sizes.{quotients_ordered}
 use Rattle.pr_params.proofs.attractions.bare_attraction.Goals as goal
 
 pub interval-requires-clause-ordered : goal.interval-requires-clause-ordered

@@ -4,8 +4,8 @@ use Rattle.std.proofs.lemmas.Int.{ints}
 use Rattle.log_laws.specs.Between.{Ends}
 use Rattle.log_laws.proofs.Exports.{back}
 use Rattle.case_types.specs.declared.cases.ParamFault.TheVariants.{MRange}
-use Rattle.case_types.specs.Faults.{alpha_fault}
-use Rattle.case_types.specs.Numbers.{numbers_of}
+use Rattle.case_types.specs.Arithmetic.Faults.{alpha_fault}
+use Rattle.case_types.specs.Arithmetic.Numbers.{numbers_of}
 use Rattle.pr_params.specs.Entries.{alpha_entry}
 use Rattle.pr_params.proofs.Below.{first_below_more, first_below_found, first_below_zero}
 use Rattle.pr_params.proofs.EntryFaults.{alpha_fault_yes, alpha_fault_no}

@@ -4,8 +4,8 @@ use Rattle.log_laws.specs.Between.{Ends}
 use Rattle.log_laws.proofs.Exports.{back, greatest-none, greatest-more}
 use Rattle.log_laws.specs.Sums.{greatest_below}
 use Rattle.std.specs.Int.{int_max}
-use Rattle.case_types.specs.Numbers.{numbers_of}
-use Rattle.case_types.specs.Tables.{ends_at}
+use Rattle.case_types.specs.Arithmetic.Numbers.{numbers_of}
+use Rattle.case_types.specs.Arithmetic.Tables.{ends_at}
 use Rattle.pr_params.proofs.covolume_means.greatest_covolume.Goals as goal
 
 pub loop-i-init : goal.loop-i-init

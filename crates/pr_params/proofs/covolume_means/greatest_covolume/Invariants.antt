@@ -1,7 +1,7 @@
 use Rattle.std.proofs.Common.{◌≡◌, ◌^◌, pos, ◌≤ℤ◌}
 use Rattle.log_laws.specs.Sums.{greatest_below}
-use Rattle.case_types.specs.Numbers.{numbers_of}
-use Rattle.case_types.specs.Tables.{ends_at}
+use Rattle.case_types.specs.Arithmetic.Numbers.{numbers_of}
+use Rattle.case_types.specs.Arithmetic.Tables.{ends_at}
 use Rattle.pr_params.proofs.covolume_means.greatest_covolume.Given as goal
 
 abbrev pub invariant-loop-i : goal.invariant-loop-i

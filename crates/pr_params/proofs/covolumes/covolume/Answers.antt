@@ -1,6 +1,7 @@
 use Rattle.std.proofs.Common.{◌+◌, ◌*◌, ◌^◌, arith}
 use Rattle.std.proofs.lemmas.Int.{ints}
-use Rattle.pr_params.proofs.Sizes.{quotient_high, ceiling_high, floor-le-ceiling}
+use Rattle.log_laws.proofs.Exports.{floor-le-ceiling}
+use Rattle.pr_params.proofs.Sizes.{quotient_high, ceiling_high}
 use Rattle.pr_params.proofs.covolumes.covolume.Goals as goal
 
 pub ratio_ends-lo-requires-clause-fits : goal.ratio_ends-lo-requires-clause-fits

@@ -1,6 +1,6 @@
 use Rattle.std.proofs.Common.{◌≡◌, sym, ◌∙◌, arith}
 use Rattle.log_laws.proofs.Exports.{all_below-more, all_below-fails}
-use Rattle.pr_params.specs.Lifting.{is_near}
+use Rattle.case_types.specs.Arithmetic.Faults.{is_near}
 use Rattle.pr_params.proofs.lifting.all_are_near.Goals as goal
 
 pub returns-then-not-near : goal.returns-then-not-near

@@ -1,6 +1,6 @@
 use Rattle.std.proofs.Common.{◌≡◌, sym, ◌∙◌, arith}
 use Rattle.log_laws.proofs.Exports.{all_below-more, all_below-fails}
-use Rattle.pr_params.specs.Lifting.{is_tiny}
+use Rattle.case_types.specs.Arithmetic.Faults.{is_tiny}
 use Rattle.pr_params.proofs.lifting.all_are_tiny.Goals as goal
 
 pub returns-then-not-tiny : goal.returns-then-not-tiny

@@ -1,6 +1,6 @@
 use Rattle.std.proofs.Common.{◌≡◌, sym, ◌∙◌, arith}
 use Rattle.log_laws.proofs.Exports.{all_below-more, all_below-fails}
-use Rattle.case_types.specs.Numbers.{fits_lifted}
+use Rattle.case_types.specs.Arithmetic.Numbers.{fits_lifted}
 use Rattle.pr_params.proofs.lifting.all_fit.Goals as goal
 
 pub returns-then-not-fits : goal.returns-then-not-fits

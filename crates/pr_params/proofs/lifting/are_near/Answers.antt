@@ -1,7 +1,7 @@
 use Rattle.std.proofs.Common.{◌≡◌, sym, ◌∙◌, arith}
 use Rattle.log_laws.proofs.Exports.{all_below-more, all_below-fails}
 use Rattle.log_laws.specs.Sums.{all_below}
-use Rattle.pr_params.specs.Lifting.{is_near}
+use Rattle.case_types.specs.Arithmetic.Faults.{is_near}
 use Rattle.pr_params.proofs.lifting.are_near.Goals as goal
 
 pub returns-then-not-all_are_near : goal.returns-then-not-all_are_near

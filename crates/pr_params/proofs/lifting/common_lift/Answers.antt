@@ -1,6 +1,6 @@
 use Rattle.std.proofs.Common.{◌≡◌, sym, ◌∙◌, ap, arith}
-use Rattle.case_types.specs.Numbers.{lift_up_to}
-use Rattle.pr_params.proofs.CommonLift.{lift_here, lift_lower, lift_none}
+use Rattle.case_types.specs.Arithmetic.Numbers.{lift_up_to}
+use Rattle.pr_params.proofs.GreatestLift.{lift_here, lift_lower, lift_none}
 use Rattle.pr_params.proofs.lifting.common_lift.Goals as goal
 
 pub loop-lift-preserved : goal.loop-lift-preserved

@@ -1,5 +1,5 @@
 use Rattle.std.proofs.Common.{◌≡◌, ◌≤◌}
-use Rattle.case_types.specs.Numbers.{lift_of, lift_up_to}
+use Rattle.case_types.specs.Arithmetic.Numbers.{lift_of, lift_up_to}
 use Rattle.pr_params.proofs.lifting.common_lift.Given as goal
 
 abbrev pub invariant-loop-lift : goal.invariant-loop-lift

@@ -3,8 +3,8 @@ use Rattle.std.specs.Int.{w128}
 use Rattle.std.proofs.lemmas.Int.{ints}
 use Rattle.std.proofs.lemmas.Result.{err_from_is_err_and}
 use Rattle.case_types.specs.declared.cases.Case.{Case}
-use Rattle.case_types.specs.Numbers.{lift_of, enclosures_of}
-use Rattle.case_types.specs.Faults.{fault_of}
+use Rattle.case_types.specs.Arithmetic.Numbers.{lift_of, enclosures_of}
+use Rattle.case_types.specs.Arithmetic.Faults.{fault_of}
 use Rattle.pr_params.specs.Entries.{temperature_entry, alpha_entry, covolume_entry, bare_entry, attraction_entry, filled, filled_table}
 use Rattle.pr_params.proofs.Filled.{numbers_filled, pairs_filled}
 use Rattle.pr_params.proofs.FirstFault.{range_fault, ratio_fault, alpha_first, attractions_decide}

@@ -1,7 +1,7 @@
 use Rattle.std.proofs.Common.{◌≤ℤ◌, pos, arith}
 use Rattle.std.proofs.lemmas.Int.{ints}
-use Rattle.pr_params.proofs.Signed.{natural_fits, natural_value}
 use Rattle.pr_params.proofs.naturals.natural_ends.Goals as goal
+use Rattle.log_laws.proofs.Exports.{natural_fits, natural_value}
 
 pub overflow_cast-result : goal.overflow_cast-result
 overflow_cast-result c = natural_fits c.args.v.lo c.requires (omega (arith, c.args.v.lo_small))

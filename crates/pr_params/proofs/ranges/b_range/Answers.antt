@@ -4,25 +4,25 @@ use Rattle.std.proofs.lemmas.Int.{ints}
 use Rattle.log_laws.specs.Sums.{least_below, greatest_below}
 use Rattle.log_laws.proofs.Exports.{back}
 use Rattle.case_types.specs.declared.cases.Case.{Case}
-use Rattle.case_types.specs.Bounds.{Box, covolume_range, covolume_low_by_rest, covolume_high_by_rest}
-use Rattle.case_types.specs.Numbers.{numbers_of}
-use Rattle.case_types.specs.Tables.{ends_at}
-use Rattle.pr_params.specs.Boxes.{box_of}
+use Rattle.case_types.specs.Arithmetic.Bounds.{Box, covolume_range, covolume_low_by_rest, covolume_high_by_rest}
+use Rattle.case_types.specs.Arithmetic.Numbers.{numbers_of}
+use Rattle.case_types.specs.Arithmetic.Tables.{ends_at}
+use Rattle.case_types.specs.Arithmetic.Bounds.{box_of}
 use Rattle.pr_params.proofs.MeansHold.{range_least, range_most, range_in_order, range_from, mean_covolume_held}
 use Rattle.pr_params.proofs.ranges.b_range.Goals as goal
 
 -- the lower end as it is read, from the least end and that by the rest
 low_read : (c : Case) (box : Box) (a r g : ℤ) → a ≡ least_below c.n (λ i. (ends_at (numbers_of c).covolumes i).lo) (ends_at (numbers_of c).covolumes 0).lo
-    → pos (2 ^ 50) ≤ℤ a → a ≤ℤ pos (2 ^ 61) → r ≡ covolume_low_by_rest (numbers_of c) box → unsigned_abs r ≤ 2 ^ 66
-    → g ≡ int_max (to_z w128 (of_z w128 a)) (to_z w128 (of_z w128 r)) → unsigned_abs g ≤ 2 ^ 66 → to_z w128 (of_z w128 g) ≡ (covolume_range (numbers_of c) box).lo
+    → pos (2 ^ 50) ≤ℤ a → a ≤ℤ pos (2 ^ 61) → r ≡ covolume_low_by_rest (numbers_of c) box → unsigned_abs r ≤ 2 ^ 83
+    → g ≡ int_max (to_z w128 (of_z w128 a)) (to_z w128 (of_z w128 r)) → unsigned_abs g ≤ 2 ^ 83 → to_z w128 (of_z w128 g) ≡ (covolume_range (numbers_of c) box).lo
 low_read c box a r g a_is low high r_is small g_is size =
     back g (omega (arith, size)) ∙ rw (back a (omega (arith, ints, low, high)), back r (omega (arith, small)), a_is, r_is) at g_is
     ∙ (range_from c box).0
 
 -- and the upper end
 high_read : (c : Case) (box : Box) (a r g : ℤ) → a ≡ greatest_below c.n (λ i. (ends_at (numbers_of c).covolumes i).hi) (ends_at (numbers_of c).covolumes 0).hi
-    → pos (2 ^ 50) ≤ℤ a → a ≤ℤ pos (2 ^ 61) → r ≡ covolume_high_by_rest (numbers_of c) box → unsigned_abs r ≤ 2 ^ 66
-    → g ≡ int_min (to_z w128 (of_z w128 a)) (to_z w128 (of_z w128 r)) → unsigned_abs g ≤ 2 ^ 66 → to_z w128 (of_z w128 g) ≡ (covolume_range (numbers_of c) box).hi
+    → pos (2 ^ 50) ≤ℤ a → a ≤ℤ pos (2 ^ 61) → r ≡ covolume_high_by_rest (numbers_of c) box → unsigned_abs r ≤ 2 ^ 83
+    → g ≡ int_min (to_z w128 (of_z w128 a)) (to_z w128 (of_z w128 r)) → unsigned_abs g ≤ 2 ^ 83 → to_z w128 (of_z w128 g) ≡ (covolume_range (numbers_of c) box).hi
 high_read c box a r g a_is low high r_is small g_is size =
     back g (omega (arith, size)) ∙ rw (back a (omega (arith, ints, low, high)), back r (omega (arith, small)), a_is, r_is) at g_is
     ∙ (range_from c box).1

@@ -1,7 +1,7 @@
 use Rattle.std.proofs.Common.{rules, ◌≡◌, ◌≤◌, ◌∙◌, ap, arith, length, get_or}
 use Rattle.std.proofs.lemmas.Int.{ints}
 use Rattle.log_laws.specs.Between.{Ends}
-use Rattle.fix_interval.specs.Interval.{ends_of}
+use Rattle.log_laws.specs.Interval.{ends_of}
 use Rattle.pr_params.proofs.AcceptedSizes.{attraction_least, covolume_most}
 use Rattle.pr_params.proofs.InOrder.{attraction_most}
 use Rattle.pr_params.proofs.HeldAt.{attraction_held_at}

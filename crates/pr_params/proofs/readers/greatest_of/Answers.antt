@@ -6,7 +6,7 @@ use Rattle.pr_params.proofs.Accepted.{rho_is}
 use Rattle.pr_params.proofs.AcceptedSizes.{usable}
 use Rattle.pr_params.proofs.AllMeans.{rho_positive}
 use Rattle.pr_params.proofs.InOrder.{rho_most}
-use Rattle.case_types.specs.Numbers.{numbers_of}
+use Rattle.case_types.specs.Arithmetic.Numbers.{numbers_of}
 use Rattle.pr_params.proofs.readers.greatest_of.Goals as goal
 
 -- the ratio is small

@@ -1,11 +1,11 @@
 use Rattle.std.proofs.Common.{◌≡◌, ◌∙◌, ℕ, List, ap, map, true, length}
 use Rattle.std.specs.Prelude.{IsTrue, IfSome}
 use Rattle.std.specs.Option.{option_map}
-use Rattle.std.specs.List.{sum}
+use Rattle.std.specs.List.{list_all, sum}
 use Rattle.std.proofs.lemmas.List.{length-map}
 use Rattle.arrayvec.specs.declared.array_vec.ArrayVec.{ArrayVec}
 use Rattle.case_types.specs.declared.cases.Name.{Name}
-use Rattle.case_words.specs.Names.{text_of, are_different}
+use Rattle.case_words.specs.Names.{text_of, is_name_length, are_different}
 use Rattle.case_words.specs.Items.{is_within}
 use Rattle.case_words.specs.Views.{gathered_of}
 use Rattle.case_words.proofs.Asking.{asked-without_t, asked-without_p, asked-without_z, asked-without_names, asked-without_tol, asked-without_budget, asked-whole, some-kept, is_within-low, is_within-high}
@@ -55,6 +55,7 @@ invariant_of-result c =
           (some-kept (gathered_of c.args.self).z c.in-Some-z.z.items (λ (z : List ℕ). IfSome (gathered_of c.args.self).names (λ (names : List (List ℕ)). length z ≡ length names)) (ap (option_map (λ (z : ArrayVec ℕ 4 (Unit {0})). z.items)) c.in-Some-z.is) c.requires.as_many)
           ∙ length-map c.in-Some-names.names.items text_of;
       differ = some-kept (gathered_of c.args.self).names (map text_of c.in-Some-names.names.items) (λ (names : List (List ℕ)). IsTrue (are_different names)) (ap (option_map (λ (names : ArrayVec Name 4 (Unit {0})). map text_of names.items)) c.in-Some-names.is) c.requires.differ;
+      named = some-kept (gathered_of c.args.self).names (map text_of c.in-Some-names.names.items) (λ (names : List (List ℕ)). IsTrue (list_all is_name_length names)) (ap (option_map (λ (names : ArrayVec Name 4 (Unit {0})). map text_of names.items)) c.in-Some-names.is) c.requires.named;
       tol_low = is_within-low 128 1048576 c.in-Some-tol.tol in_tol;
       tol_high = is_within-high 128 1048576 c.in-Some-tol.tol in_tol;
       budget_low = is_within-low 1 10000000 c.in-Some-budget.budget in_budget;
@@ -63,5 +64,5 @@ invariant_of-result c =
 
 pub returns : goal.returns
 returns c =
-    asked-whole (gathered_of c.args.self) c.in-Some.t c.in-Some-p.p c.in-Some-z.z.items (map text_of c.in-Some-names.names.items) c.in-Some-tol.tol c.in-Some-budget.budget
-    c.in-Some.is c.in-Some-p.is (ap (option_map (λ (z : ArrayVec ℕ 4 (Unit {0})). z.items)) c.in-Some-z.is) (ap (option_map (λ (names : ArrayVec Name 4 (Unit {0})). map text_of names.items)) c.in-Some-names.is) c.in-Some-tol.is c.in-Some-budget.is
+    asked-whole (gathered_of c.args.self) c.in-Some.t c.in-Some-p.p c.in-Some-z.z.items (map text_of c.in-Some-names.names.items) c.in-Some-tol.tol c.in-Some-budget.budget c.unwrap_or.result
+    c.in-Some.is c.in-Some-p.is (ap (option_map (λ (z : ArrayVec ℕ 4 (Unit {0})). z.items)) c.in-Some-z.is) (ap (option_map (λ (names : ArrayVec Name 4 (Unit {0})). map text_of names.items)) c.in-Some-names.is) c.in-Some-tol.is c.in-Some-budget.is c.unwrap_or.ensures

@@ -1,7 +1,7 @@
 use Rattle.std.proofs.Common.{◌≡◌, ap, ◌∙◌, get_or, arith}
 use Rattle.std.proofs.lemmas.Int.{ints}
 use Rattle.log_laws.specs.Between.{Ends}
-use Rattle.fix_interval.specs.Interval.{ends_of}
+use Rattle.log_laws.specs.Interval.{ends_of}
 use Rattle.pr_params.specs.Entries.{alpha_entry}
 use Rattle.pr_params.proofs.EntryFaults.{alpha_low}
 use Rattle.pr_params.proofs.EntrySizes.{alpha_high}

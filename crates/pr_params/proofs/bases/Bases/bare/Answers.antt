@@ -1,8 +1,8 @@
 use Rattle.std.proofs.Common.{◌≡◌, List, ap, ◌∙◌, get_or, arith}
 use Rattle.std.proofs.lemmas.Int.{ints}
 use Rattle.log_laws.specs.Between.{Ends}
-use Rattle.fix_interval.specs.declared.iv.Iv.{Iv}
-use Rattle.fix_interval.specs.Interval.{ends_of}
+use Rattle.log_laws.specs.declared.iv.Iv.{Iv}
+use Rattle.log_laws.specs.Interval.{ends_of}
 use Rattle.pr_params.specs.Entries.{bare_entry, ends_of_all}
 use Rattle.pr_params.proofs.EntrySizes.{bare_low, bare_high}
 use Rattle.pr_params.proofs.Slots.{row_slot_at, pair_slot_at}

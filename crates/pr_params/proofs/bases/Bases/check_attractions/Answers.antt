@@ -1,6 +1,6 @@
 use Rattle.std.proofs.lemmas.Result.{err_from_is_err_and}
-use Rattle.case_types.specs.Faults.{first_below, attraction_fault}
-use Rattle.case_types.specs.Numbers.{numbers_of}
+use Rattle.case_types.specs.Arithmetic.Faults.{first_below, attraction_fault}
+use Rattle.case_types.specs.Arithmetic.Numbers.{numbers_of}
 use Rattle.pr_params.proofs.Below.{first_below_more, first_below_found, first_below_zero}
 use Rattle.pr_params.proofs.bases.Bases.check_attractions.Goals as goal
 

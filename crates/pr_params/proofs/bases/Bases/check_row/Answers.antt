@@ -1,8 +1,8 @@
 use Rattle.std.proofs.Common.{◌+◌, ap}
 use Rattle.log_laws.specs.Between.{Ends}
 use Rattle.case_types.specs.declared.cases.ParamFault.TheVariants.{ARange}
-use Rattle.case_types.specs.Faults.{attraction_fault}
-use Rattle.case_types.specs.Numbers.{numbers_of}
+use Rattle.case_types.specs.Arithmetic.Faults.{attraction_fault}
+use Rattle.case_types.specs.Arithmetic.Numbers.{numbers_of}
 use Rattle.pr_params.proofs.Below.{first_below_more, first_below_found, first_below_nowhere}
 use Rattle.pr_params.proofs.EntryFaults.{attraction_fault_yes, attraction_fault_no, attraction_fault_before, lesser_below, lesser_above}
 use Rattle.pr_params.proofs.bases.Bases.check_row.Goals as goal

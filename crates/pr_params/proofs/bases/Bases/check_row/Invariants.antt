@@ -1,6 +1,6 @@
 use Rattle.std.proofs.Common.{◌≡◌, None}
-use Rattle.case_types.specs.Faults.{first_below, attraction_fault}
-use Rattle.case_types.specs.Numbers.{numbers_of}
+use Rattle.case_types.specs.Arithmetic.Faults.{first_below, attraction_fault}
+use Rattle.case_types.specs.Arithmetic.Numbers.{numbers_of}
 use Rattle.pr_params.proofs.bases.Bases.check_row.Given as goal
 
 abbrev pub invariant-loop-j : goal.invariant-loop-j

@@ -1,7 +1,7 @@
 use Rattle.std.proofs.Common.{◌≡◌, ap, ◌∙◌, get_or, arith}
 use Rattle.std.proofs.lemmas.Int.{ints}
 use Rattle.log_laws.specs.Between.{Ends}
-use Rattle.fix_interval.specs.Interval.{ends_of}
+use Rattle.log_laws.specs.Interval.{ends_of}
 use Rattle.pr_params.specs.Entries.{covolume_entry}
 use Rattle.pr_params.proofs.EntrySizes.{covolume_positive}
 use Rattle.pr_params.proofs.Slots.{slot_at}

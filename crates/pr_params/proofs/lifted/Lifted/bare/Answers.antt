@@ -2,9 +2,9 @@ use Rattle.std.proofs.Common.{◌≡◌, ◌*◌, ◌^◌, ◌<◌, ◌≤◌, �
 use Rattle.std.proofs.lemmas.Int.{ints}
 use Rattle.std.proofs.Math.Nat.{mul-le-mul}
 use Rattle.log_laws.specs.Between.{Ends}
-use Rattle.case_types.specs.CaseWords.{interaction, critical_temperature}
-use Rattle.case_types.specs.Parameters.{cohesion_num}
-use Rattle.fix_interval.specs.Interval.{ends}
+use Rattle.case_types.specs.Energy.Components.{interaction, critical_temperature}
+use Rattle.case_types.specs.Energy.Parameters.{cohesion_num}
+use Rattle.log_laws.specs.Interval.{ends}
 use Rattle.pr_params.specs.Entries.{pressure_entry}
 use Rattle.pr_params.proofs.Bares.{bare_fits, bare_made}
 use Rattle.pr_params.proofs.Components.{interaction_at_least, interaction_at_most, interaction_read}

@@ -1,6 +1,6 @@
 use Rattle.std.proofs.Common.{◌∙◌, refl}
-use Rattle.pr_params.proofs.Signed.{power_read}
 use Rattle.pr_params.proofs.numbers.Params.volume_scale.Goals as goal
+use Rattle.log_laws.proofs.Exports.{power_read}
 
 pub returns-clause-value : goal.returns-clause-value
 returns-clause-value c = (power_read c.raised_by.result c.raised_by.ensures.small).0 ∙ rw (c.raised_by.ensures.value) refl

@@ -1,0 +1,5 @@
+pub mod Walks
+pub mod WorkLaws
+pub mod WeakDuality
+pub mod Certify
+pub mod Exports

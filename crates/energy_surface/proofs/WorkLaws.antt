@@ -1,0 +1,173 @@
+-- Proofs of the laws of lawful answers.
+use Rattle.std.proofs.Common.{◌≡◌, ℕ, zero, suc, ◌+◌, ◌*◌, ◌^◌, ◌<◌, List, [], ◌∷◌, ◌++◌, length, take, Some, None, get_or, cond, ℤ, pos, neg_ℤ, ◌+ℤ◌, ◌-ℤ◌, ◌≤ℤ◌, ◌<ℤ◌, subst, refl, sym, ap, ◌∙◌, inl, inr, arith, length-append}
+use Rattle.std.specs.Prelude.{slice_get}
+use Rattle.std.proofs.lemmas.Int.{ints}
+use Rattle.std.proofs.lemmas.List.{length-take, get_or-take}
+use Rattle.std.proofs.lemmas.List.Sums.{sum_by-append}
+use Rattle.std.proofs.lemmas.Option.{get_or_from_slice_get, slice_get_within}
+use Rattle.case_types.specs.declared.answers.Answer.{Answer}
+use Rattle.case_types.specs.declared.answers.Outcome.{Outcome}
+use Rattle.case_types.specs.declared.answers.Outcome.TheVariants as Outcomes
+use Rattle.case_types.specs.declared.answers.Work.{Work}
+use Rattle.case_types.specs.declared.cases.Case.{Case}
+use Rattle.case_types.specs.declared.pivots.Pivot.{Pivot}
+use Rattle.case_types.specs.declared.rounds.Column.{Column}
+use Rattle.case_types.specs.declared.rounds.Round.{Round}
+use Rattle.case_types.specs.Arithmetic.Bounds.{plane_at}
+use Rattle.case_types.specs.Grid.Columns.{point_of, plane_at_point}
+use Rattle.energy_surface.specs.declared.found.Found.{Found}
+use Rattle.energy_surface.specs.declared.found.Found.TheVariants.{AllClear, Refuted, Spent, Grain}
+use Rattle.energy_surface.specs.Lawful.{IsLawful, beginning}
+use Rattle.energy_surface.specs.Outcomes.{HasCause, delta_of, outcome_of}
+use Rattle.energy_surface.specs.Pivoting.{plane_over, Pivots}
+use Rattle.energy_surface.specs.Rounds.{Start, Own, own_of, round_end, quarter_of, IsSearchedRound, IsRound, AreRefuted, after}
+use Rattle.energy_surface.specs.Surfaces.{Surface, under}
+use Rattle.energy_surface.specs.WorkLaws.{is_refuted, refutations, SomeRound, UnitsAreWork, SpentHasWorked, ColumnsAreKept, IsLower, FallsAfter, Falls, PlanesFall, ClosedIsNear}
+use Rattle.energy_surface.proofs.Walks.{cuts_off}
+
+-- ---- counts
+refutations-append : (rs qs : List Round) → refutations (rs ++ qs) ≡ refutations rs + refutations qs
+refutations-append rs qs = sum_by-append (λ (r : Round). cond (is_refuted r.end) 1 0) rs qs
+
+all_refuted : (surface : Surface) (c : Case) (tol : ℕ) (w : Work) (s last : Start) (rs : List Round) → AreRefuted surface c tol w s rs last → (refutations rs ≡ length rs) × (last.columns ≡ s.columns + length rs)
+unfolding AreRefuted
+all_refuted surface c tol w s last [] h = (refl, rw h (omega arith))
+all_refuted surface c tol w s last (r ∷ rs) h =
+    let k = all_refuted surface c tol w (after r h.0) last rs h.4 in
+    let one : refutations (r ∷ []) ≡ 1 = rw h.2.ended refl in
+    let e = refutations-append (r ∷ []) rs in
+    (omega (arith, e, one, k.0), omega (arith, k.1, h.2.columns))
+
+last_unrefuted : (found : Found) (r : Round) (o : Outcome) → outcome_of found ≡ Some o → r.end ≡ round_end found → refutations (r ∷ []) ≡ 0
+last_unrefuted (AllClear low) r o e h = rw h refl
+last_unrefuted (Refuted kept) r o e h = absurd (cc e)
+last_unrefuted (Spent low) r o e h = rw h refl
+last_unrefuted (Grain low cell) r o e h = rw h refl
+
+-- all rounds but the last are refuted
+counted : (surface : Surface) (c : Case) (tol budget : ℕ) (a : Answer) → (h : IsLawful surface c tol budget a) → refutations a.work.rounds.items ≡ length h.earlier
+counted surface c tol budget a h =
+    let one = all_refuted surface c tol a.work (beginning h.first) h.start h.earlier h.refuted in
+    let none = last_unrefuted h.found h.last a.outcome h.outcome h.ends.ended in
+    let e = refutations-append h.earlier (h.last ∷ []) in
+    rw h.rounds (omega (arith, e, one.0, none))
+
+pub some_round : SomeRound
+some_round surface c tol budget a h = rw (h.rounds, length-append) (omega arith)
+
+pub units_are_work : UnitsAreWork
+units_are_work surface c tol budget a h = let n = counted surface c tol budget a h in omega (arith, h.units, n)
+
+pub spent_has_worked : SpentHasWorked
+spent_has_worked surface c tol budget a h spent some =
+    let e = units_are_work surface c tol budget a h in
+    let cause : HasCause surface tol budget a Outcomes.Spent = rw spent at h.answer.cause in
+    omega (arith, e, cause.1, some)
+
+pub columns_are_kept : ColumnsAreKept
+columns_are_kept surface c tol budget a h =
+    let n = counted surface c tol budget a h in
+    let one = all_refuted surface c tol a.work (beginning h.first) h.start h.earlier h.refuted in
+    omega (arith, n, one.1, h.all_columns, h.ends.columns)
+
+-- ---- planes
+-- a refuted round is no round that was cut short
+searched_there : (surface : Surface) (c : Case) (tol : ℕ) (s : Start) (own : Own) (r : Round) (basis kept : Column) → IsRound surface c tol s own r basis (Refuted kept) →
+    IsSearchedRound surface c tol own basis r (Refuted kept)
+searched_there surface c tol s own r basis kept h =
+    elim h.plane [
+      | inl k ↦ k
+      | inr k ↦ absurd (let z = k.spent in cc)
+    ]
+
+falls_below : (tol : ℕ) (up at before : ℤ) → at ≤ℤ (up +ℤ quarter_of tol) → (up +ℤ delta_of tol) <ℤ before → at <ℤ before
+falls_below tol up at before h k = omega (arith, ints, h, k)
+
+lower : (surface : Surface) (c : Case) (tol : ℕ) (w : Work) (s t : Start) (before r : Round) (basis other kept : Column) (found : Found) →
+    IsRound surface c tol s (own_of w s before) before basis (Refuted kept) → slice_get w.columns.items before.columns ≡ Some kept → r.columns ≡ before.columns + 1 →
+    IsSearchedRound surface c tol (own_of w t r) other r found → IsLower surface.count w before r
+lower surface c tol w s t before r basis other kept found h at next n =
+    let k = searched_there surface c tol s (own_of w s before) before basis kept h in
+    let cut = cuts_off (under surface before.plane.lam (delta_of tol)) kept k.searched.left k.searched.ends in
+    let there : before.columns < length w.columns.items = slice_get_within w.columns.items before.columns kept at in
+    let place : before.columns < length (take r.columns w.columns.items) = rw length-take (omega (arith, there, next)) in
+    let same : get_or (take r.columns w.columns.items) before.columns kept ≡ kept =
+    get_or-take r.columns w.columns.items before.columns kept (omega (arith, next)) ∙ get_or_from_slice_get w.columns.items before.columns kept kept at in
+    let over = rw same at (n.fair.no_deeper before.columns kept place) in (
+      kept,
+      at,
+      falls_below tol kept.up (plane_at_point surface.count r.plane.lam (point_of kept)) (plane_at_point surface.count before.plane.lam (point_of kept)) over (rw cut.0.up cut.1.below),
+    )
+
+first_in : (n : ℕ) (cols : List Column) (x y : Column) → slice_get (take n cols) 0 ≡ Some x → slice_get cols 0 ≡ Some y → x ≡ y
+first_in zero cols x y e f = absurd (let z : None ≡ Some x = e in cc)
+first_in (suc n) [] x y e f = absurd (let z : None ≡ Some x = e in cc)
+first_in (suc n) (col ∷ cols) x y e f = let z : Some col ≡ Some x = e in let v : Some col ≡ Some y = f in cc
+
+-- from a plane that is cut off on
+falls_after : (surface : Surface) (c : Case) (tol : ℕ) (w : Work) (first before last : Round) (s start : Start) (basis other kept one : Column) (found : Found) (rs : List Round) →
+    slice_get w.columns.items 0 ≡ Some one → first.plane.lam ≡ plane_over one →
+    IsRound surface c tol s (own_of w s before) before basis (Refuted kept) → slice_get w.columns.items before.columns ≡ Some kept →
+    AreRefuted surface c tol w (after before basis) rs start → IsRound surface c tol start (own_of w start last) last other found → FallsAfter surface.count w first before (rs ++ last ∷ [])
+unfolding AreRefuted FallsAfter
+falls_after surface c tol w first before last s start basis other kept one found [] is plane h at same n =
+    let next : last.columns ≡ before.columns + 1 = n.columns ∙ sym (ap (λ (x : Start). x.columns) same) in (
+      elim n.plane [
+        | inl k ↦ inl (lower surface c tol w s start before last basis other kept found h at next k)
+        | inr k ↦ inr (
+          refl,
+          n.ended ∙ ap round_end k.spent,
+          k.plane ∙ ap plane_over (first_in last.columns w.columns.items k.first one k.first_is is) ∙ sym plane,
+        )
+      ],
+      tt,
+    )
+falls_after surface c tol w first before last s start basis other kept one found (r ∷ rs) is plane h at more n = (
+  inl (lower surface c tol w s (after before basis) before r basis more.0 kept (Refuted more.1) h at more.2.columns
+      (searched_there surface c tol (after before basis) (own_of w (after before basis) r) r more.0 more.1 more.2)),
+  falls_after surface c tol w first r last (after before basis) start more.0 other more.1 one found rs is plane more.2 more.3 more.4 n,
+)
+
+-- with one column there is no pivot
+alone : (x y : Column) (n : ℕ) → slice_get (x ∷ []) n ≡ Some y → x ≡ y
+alone x y zero e = let z : Some x ≡ Some y = e in cc
+alone x y (suc n) e = absurd (let z : None ≡ Some y = e in cc)
+
+no_pivot : (cols : List Column) (first basis : Column) (vs : List Pivot) → slice_get cols 0 ≡ Some first → Pivots (take 1 cols) first vs basis → first ≡ basis
+unfolding Pivots
+no_pivot cols first basis [] e h = h
+no_pivot [] first basis (v ∷ vs) e h = absurd (let z : None ≡ Some first = e in cc)
+no_pivot (col ∷ cols) first basis (v ∷ vs) e h =
+    let same : col ≡ first = let z : Some col ≡ Some first = e in cc in
+    let next : col ≡ h.0 = alone col h.0 v.enter h.1.stands in
+    let cost : h.0.cost ≡ first.cost = ap (λ (x : Column). x.cost) (sym next ∙ same) in
+    absurd (omega (arith, ints, h.1.cheaper, cost))
+
+falls : (surface : Surface) (c : Case) (tol : ℕ) (w : Work) (one : Column) (start : Start) (last : Round) (other : Column) (found : Found) (rs : List Round) → slice_get w.columns.items 0 ≡ Some one →
+    AreRefuted surface c tol w (beginning one) rs start → IsRound surface c tol start (own_of w start last) last other found → Falls surface.count w (rs ++ last ∷ [])
+unfolding AreRefuted FallsAfter
+falls surface c tol w one start last other found [] is h n = tt
+falls surface c tol w one start last other found (r ∷ rs) is h n =
+    let k = searched_there surface c tol (beginning one) (own_of w (beginning one) r) r h.0 h.1 h.2 in
+    let basis : one ≡ h.0 = no_pivot w.columns.items one h.0 (own_of w (beginning one) r).pivots is (rw h.2.columns at h.2.pivots) in
+    falls_after surface c tol w r r last (beginning one) start h.0 other h.1 one found rs is (k.fair.plane ∙ ap plane_over (sym basis)) h.2 h.3 h.4 n
+
+pub planes_fall : PlanesFall
+planes_fall surface c tol budget a h =
+    subst (λ rs. Falls surface.count a.work rs) (sym h.rounds)
+    (falls surface c tol a.work h.first h.start h.last h.basis h.found h.earlier h.first_is h.refuted h.ends)
+
+-- ---- the gap
+near_gap : (tol : ℕ) (gap u at low : ℤ) → gap ≡ (u -ℤ at) -ℤ low → u ≤ℤ (at +ℤ quarter_of tol) → neg_ℤ (delta_of tol) ≤ℤ low → gap ≤ℤ pos (3 * tol * 2 ^ 18)
+near_gap tol gap u at low e near clear = rw e (omega (arith, ints, near, clear))
+
+spent_open : (found : Found) (low : ℤ) (o : Outcome) → outcome_of found ≡ Some o → found ≡ Spent low → o ≡ Outcomes.Closed → ⊥
+spent_open found low o h e closed = let k : Some Outcomes.Spent ≡ Some o = rw e at h in cc (k, closed)
+
+pub closed_is_near : ClosedIsNear
+closed_is_near surface c tol budget a h closed =
+    let cause : HasCause surface tol budget a Outcomes.Closed = rw closed at h.answer.cause in
+    elim h.ends.plane [
+      | inl k ↦ near_gap tol a.gap a.u (plane_at c.n a.plane.lam c.z c.total) a.low h.answer.gap (rw (h.u, h.plane) k.fair.near) cause
+      | inr k ↦ absurd (spent_open h.found _ a.outcome h.outcome k.spent closed)
+    ]

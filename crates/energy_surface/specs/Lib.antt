@@ -1,0 +1,10 @@
+pub mod Surfaces
+pub mod Columns
+pub mod Searches
+pub mod Pivoting
+pub mod Program
+pub mod Outcomes
+pub mod Rounds
+pub mod Lawful
+pub mod WorkLaws
+pub mod Energies

@@ -1,0 +1,13 @@
+//! Energy surfaces, known by their bounds alone: what a search of one leaves, what makes an answer lawful, and what lows promise.
+#![tactic(auto)]
+
+mod found;
+mod laws;
+mod surfaces;
+
+pub use found::Found;
+pub use laws::{
+    closed_is_near, columns_are_kept, lows_certify, planes_fall, some_round, spent_has_worked,
+    units_are_work, uppers_certify, weak_duality,
+};
+pub use surfaces::Surface;

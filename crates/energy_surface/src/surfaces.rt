@@ -1,0 +1,73 @@
+//! What is known of an energy surface: its bounds.
+
+ghost use Rattle.std.specs.Prelude.{ℕ, ◌≡◌, ◌≤◌, ◌<◌, ◌^◌, unsigned_abs, IfSome, IsFalse};
+ghost use Rattle.case_types.specs.declared.parts.MixLow.{MixLow};
+ghost use Rattle.case_types.specs.declared.parts.MixUp.{MixUp};
+ghost use Rattle.case_types.specs.declared.parts.PackingLogs.{PackingLogs};
+
+use case_types::{BoxX, Cell, MixLow, MixUp, PackingLogs, Plane};
+
+/// An energy surface of one to four components, by its bounds in 2^-40 bit.
+///
+/// A bound of the energy is made of two parts: of the box of compositions, and of packing fractions. A half of a cell has
+/// one of them from the cell. What the numbers of a part stand for is said by the surface.
+pub trait Surface {
+    ghost use Rattle.case_types.specs.Arithmetic.Bounds.{Box, box_of};
+    ghost use Rattle.case_types.specs.Grid.Cells.{region_of, misses};
+    ghost use Rattle.energy_surface.specs.Surfaces.{Surface as Bounds};
+
+    /// How many components, and the bounds as they are defined.
+    ghost bounds: { Self → Bounds };
+
+    /// It is the part of lower bounds that belongs to this box.
+    ghost is_mix_low: { Self → Box → MixLow → Type 0 };
+
+    /// It is the part of upper bounds that belongs to this box.
+    ghost is_mix_up: { Self → Box → MixUp → Type 0 };
+
+    /// They are the logarithms at this packing fraction.
+    ghost are_logs: { Self → ℕ → PackingLogs → Type 0 };
+
+    /// How many components the surface has.
+    fn count(&self) -> u8
+        ensures value { result ≡ (bounds self.now).count }
+        ensures one { 1 ≤ result }
+        ensures four { result ≤ 4 };
+
+    /// The part of lower bounds over the box.
+    fn mix_low(&self, x: &BoxX) -> MixLow
+        ensures { is_mix_low self.now (box_of x.now) result };
+
+    /// The part of upper bounds over the box.
+    fn mix_up(&self, x: &BoxX) -> MixUp
+        ensures { is_mix_up self.now (box_of x.now) result };
+
+    /// The logarithms at a packing fraction, in 2^-40.
+    fn logs(&self, y: u64) -> PackingLogs
+        requires { y ≤ 2 ^ 40 }
+        ensures at { result.packing ≡ y }
+        ensures logs { are_logs self.now y result };
+
+    /// The energy at every composition of a box and every packing fraction from one to another is at least this.
+    fn low(&self, mix: &MixLow, from: &PackingLogs, to: &PackingLogs) -> i128
+        requires ordered { from.now.packing ≤ to.now.packing }
+        requires room { from.now.packing < 2 ^ 40 }
+        requires some { 1 ≤ to.now.packing }
+        ensures value { (x : Box) (yl yh : ℕ) → is_mix_low self.now x mix.now → are_logs self.now yl from.now → are_logs self.now yh to.now →
+            result ≡ (bounds self.now).low x yl yh }
+        ensures small { unsigned_abs result ≤ 2 ^ 106 };
+
+    /// The energy at every composition of a box and at a packing fraction is at most this.
+    fn up(&self, mix: &MixUp, logs: &PackingLogs) -> i128
+        requires some { 1 ≤ logs.now.packing }
+        requires inside { logs.now.packing < 2 ^ 40 }
+        ensures value { (x : Box) (y : ℕ) → is_mix_up self.now x mix.now → are_logs self.now y logs.now → result ≡ (bounds self.now).up x y }
+        ensures small { unsigned_abs result ≤ 2 ^ 106 }
+        ensures at_half { (x : Box) → is_mix_up self.now x mix.now → are_logs self.now (2 ^ 39) logs.now → unsigned_abs result < 2 ^ 49 };
+
+    /// Over the cell the energy lies above the plane by at least this, where slopes give such a number.
+    fn slope(&self, plane: &Plane, cell: &Cell) -> Option<i128>
+        requires meets { IsFalse (misses (bounds self.now).count (region_of cell.now)) }
+        ensures value { result ≡ (bounds self.now).slope plane.now.lam (region_of cell.now) }
+        ensures small { IfSome result (λ z. unsigned_abs z ≤ 2 ^ 107) };
+}

@@ -1,0 +1,9 @@
+use Rattle.std.proofs.Common.{◌≡◌, ◌≤◌, ◌*◌, ◌^◌, slice_index}
+use Rattle.log_laws.specs.Sums.{sum_below}
+use Rattle.exact_lp.proofs.tests.is_whole.Given as goal
+
+abbrev pub invariant-loop-i : goal.invariant-loop-i
+invariant-loop-i l = record {
+  whole : l.sum ≡ sum_below l.i (slice_index l.x);
+  small : l.sum ≤ l.i * 2 ^ 32;
+}

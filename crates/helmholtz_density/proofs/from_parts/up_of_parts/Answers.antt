@@ -1,0 +1,49 @@
+use Rattle.std.proofs.Common.{◌≡◌, ◌∙◌, ◌≤◌, ◌-◌, ◌^◌, pos, neg_ℤ, arith}
+use Rattle.log_laws.specs.Squaring.{log_down}
+use Rattle.log_laws.proofs.Exports.{back}
+use Rattle.case_types.specs.Arithmetic.Bounds.{one, ratio_low, volume_up, covolume_range, attraction_term_low}
+use Rattle.case_types.specs.Arithmetic.Numbers.{numbers_of}
+use Rattle.pr_params.proofs.Exports.{log_some}
+use Rattle.helmholtz_density.proofs.Terms.{energy_up_is, log_down_of_half}
+use Rattle.helmholtz_density.proofs.from_parts.up_of_parts.Goals as goal
+
+pub returns-clause-value : goal.returns-clause-value
+returns-clause-value c = λ x y of is.
+    let p = numbers_of c.args.params.now.case in
+    let mix = c.args.mix.now in
+    let logs = c.args.logs.now in
+    let v = c.volume.ensures.small in
+    let q = c.attraction_term_low.ensures.small in
+    let s = c.energy_of_terms.ensures.small in
+    let some : 1 ≤ one - y = (let e = is.packing in let r = c.requires.inside in omega (arith, e, r)) in
+    let volume : c.volume.result ≡ volume_up p (covolume_range p x).hi y = rw of.covolume at (c.volume.ensures.value y is) in
+    let attraction : c.attraction_term_low.result ≡ attraction_term_low p (ratio_low p x) y =
+    rw (back mix.ratio (omega (arith, mix.ratio_small)), of.ratio) at (c.attraction_term_low.ensures.value c.args.params.now.case y is) in
+    let sum = rw (
+      back mix.mixing (omega (arith, mix.mixing_small)),
+      back c.volume.result (omega (arith, v)),
+      back mix.log_covolume (omega (arith, mix.log_small)),
+      back logs.rest_low (omega (arith, logs.rest_low_small)),
+      back c.attraction_term_low.result (omega (arith, q)),
+    ) at c.energy_of_terms.ensures.value in
+    back c.energy_of_terms.result (omega (arith, s)) ∙ sum
+    ∙ energy_up_is p x y mix.mixing c.volume.result mix.log_covolume logs.rest_low c.attraction_term_low.result
+    of.mixing volume of.log_covolume (is.rest_low ∙ log_some log_down (one - y) some) attraction
+
+pub returns-clause-at_half : goal.returns-clause-at_half
+returns-clause-at_half c = λ x of is.
+    let mix = c.args.mix.now in
+    let logs = c.args.logs.now in
+    let h = c.volume.ensures.at_half is in
+    let q = c.attraction_term_low.ensures.small in
+    let s = c.energy_of_terms.ensures.small in
+    let rest : logs.rest_low ≡ neg_ℤ (pos (2 ^ 40)) = is.rest_low ∙ log_down_of_half in
+    let sum = rw (
+      back mix.mixing (omega (arith, mix.mixing_small)),
+      back c.volume.result (omega (arith, h)),
+      back mix.log_covolume (omega (arith, mix.log_small)),
+      back logs.rest_low (omega (arith, logs.rest_low_small)),
+      back c.attraction_term_low.result (omega (arith, q)),
+      rest,
+    ) at c.energy_of_terms.ensures.sum in
+    rw (back c.energy_of_terms.result (omega (arith, s))) (omega (arith, sum, h, q, mix.mixing_small, mix.log_small))

@@ -1,0 +1,13 @@
+-- The one door: what the proofs of crates above may cite.
+pub use Rattle.pr_params.proofs.Accepted.{e_lo_is, e_hi_is, e_exact}
+pub use Rattle.pr_params.proofs.Argument.{positive_between, packing_positive, state_packing, rest_parts}
+pub use Rattle.pr_params.proofs.AttractionTerm.{state_attraction_least, state_attraction_most}
+pub use Rattle.pr_params.proofs.Components.{total_positive}
+pub use Rattle.pr_params.proofs.EnergyTerms.{energy_by_terms}
+pub use Rattle.pr_params.proofs.Lambda.{respelled}
+pub use Rattle.pr_params.proofs.MeansHold.{holds_means, ratio_high_positive, sized, ratio_low_positive}
+pub use Rattle.pr_params.proofs.PackingLogs.{not_none, log_size, log_some}
+pub use Rattle.pr_params.proofs.ParametersHold.{holds_parameters}
+pub use Rattle.pr_params.proofs.Pull.{times_scaled, times_minus_one}
+pub use Rattle.pr_params.proofs.Right.{enclosures_right}
+pub use Rattle.pr_params.proofs.Sized.{e_ends, scale_split, IsSized, ends_ordered, between_apart, covolume_positive, count_of, each_up_to}

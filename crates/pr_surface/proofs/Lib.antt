@@ -1,0 +1,2 @@
+pub mod SurfaceBound
+pub mod Exports

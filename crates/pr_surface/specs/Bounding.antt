@@ -1,0 +1,24 @@
+-- What it says that the surface of Peng and Robinson bounds their energy, and what lows of its cells then promise.
+use Rattle.std.specs.Prelude.{◌≡◌, None, List, ℤ, ◌+ℤ◌}
+use Rattle.log_laws.specs.LogSum.{AtLeast}
+use Rattle.case_types.specs.declared.cases.Case.{Case}
+use Rattle.case_types.specs.Arithmetic.Bounds.{plane_at}
+use Rattle.case_types.specs.Energy.Divisions.{energy_of, bits, Division, Divides, energy_of_division}
+use Rattle.case_types.specs.Arithmetic.Faults.{fault_of}
+use Rattle.case_types.specs.Energy.Instances.{Instance, IsInstance}
+use Rattle.case_types.specs.Arithmetic.Numbers.{numbers_of, enclosures_of}
+use Rattle.case_types.specs.Grid.Cells.{root_region}
+use Rattle.energy_surface.specs.Energies.{Bounds}
+use Rattle.energy_surface.specs.Surfaces.{IsOver}
+use Rattle.pr_surface.specs.PengRobinson.{surface_of}
+
+-- the numbers of an accepted case bound its energy, for every instance between the printed ends
+abbrev pub NumbersBound : Type 0
+NumbersBound = (c : Case) (x : Instance) → fault_of c ≡ None → IsInstance c (enclosures_of c) x → Bounds (surface_of (numbers_of c)) (energy_of c x)
+
+-- so every division of the feed has at least the energy of the plane at the feed and a low for a tree of the whole domain
+abbrev pub LowsCertify : Type 0
+LowsCertify =
+    (c : Case) (x : Instance) (lam : List ℤ) (low : ℤ) (d : Division) → fault_of c ≡ None → IsInstance c (enclosures_of c) x →
+    IsOver (surface_of (numbers_of c)) lam low (root_region c.n) → Divides c d →
+    AtLeast (energy_of_division c x d) (bits (plane_at c.n lam c.z c.total +ℤ low))

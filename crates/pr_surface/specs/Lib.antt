@@ -1,0 +1,2 @@
+pub mod PengRobinson
+pub mod Bounding

@@ -1,0 +1,57 @@
+//! The parameters of a case as an energy surface.
+
+ghost use Rattle.case_types.specs.Arithmetic.Numbers.{numbers_of};
+ghost use Rattle.helmholtz_density.specs.Parts.{IsMixUp};
+ghost use Rattle.pr_params.specs.Packings.{ArePackingLogs};
+ghost use Rattle.pr_surface.specs.PengRobinson.{surface_of};
+ghost use Rattle.tangent_bound.specs.Parts.{IsMixLow};
+
+use case_types::{BoxX, Cell, MixLow, MixUp, PackingLogs, Plane};
+use energy_surface::Surface;
+use helmholtz_density::{mix_up, up_of_parts};
+use pr_params::{Params, packing_logs};
+use tangent_bound::{low_of_parts, mix_low};
+
+/// The energy surface that the parameters make.
+#[derive(Clone, Copy)]
+pub struct PengRobinson<'a> {
+    pub params: &'a Params,
+}
+
+impl Surface for PengRobinson<'_> {
+    ghost bounds = { λ s. surface_of (numbers_of s.params.now.case) };
+
+    ghost is_mix_low = { λ s x m. IsMixLow (numbers_of s.params.now.case) x m };
+
+    ghost is_mix_up = { λ s x m. IsMixUp (numbers_of s.params.now.case) x m };
+
+    ghost are_logs = { λ s y l. ArePackingLogs (numbers_of s.params.now.case) y l };
+
+    fn count(&self) -> u8 {
+        self.params.case.n
+    }
+
+    fn mix_low(&self, x: &BoxX) -> MixLow {
+        mix_low(self.params, x)
+    }
+
+    fn mix_up(&self, x: &BoxX) -> MixUp {
+        mix_up(self.params, x)
+    }
+
+    fn logs(&self, y: u64) -> PackingLogs {
+        packing_logs(y)
+    }
+
+    fn low(&self, mix: &MixLow, from: &PackingLogs, to: &PackingLogs) -> i128 {
+        low_of_parts(self.params, mix, from, to)
+    }
+
+    fn up(&self, mix: &MixUp, logs: &PackingLogs) -> i128 {
+        up_of_parts(self.params, mix, logs)
+    }
+
+    fn slope(&self, _plane: &Plane, _cell: &Cell) -> Option<i128> {
+        None
+    }
+}

@@ -1,0 +1,2 @@
+-- The one door: what the proofs of crates above may cite.
+pub use Rattle.tangent_bound.proofs.EnergyLow.{energy_low_holds}
