@@ -19,10 +19,9 @@ use Rattle.energy_surface.specs.declared.found.Found.{Found}
 use Rattle.energy_surface.specs.declared.found.Found.TheVariants.{AllClear, Refuted, Spent, Grain}
 use Rattle.energy_surface.specs.Lawful.{IsLawful, beginning}
 use Rattle.energy_surface.specs.Outcomes.{HasCause, delta_of, outcome_of}
-use Rattle.energy_surface.specs.Pivoting.{plane_over, Pivots}
 use Rattle.energy_surface.specs.Rounds.{Start, Own, own_of, round_end, quarter_of, IsSearchedRound, IsRound, AreRefuted, after}
 use Rattle.energy_surface.specs.Surfaces.{Surface, under}
-use Rattle.energy_surface.specs.WorkLaws.{is_refuted, refutations, SomeRound, UnitsAreWork, SpentHasWorked, ColumnsAreKept, IsLower, FallsAfter, Falls, PlanesFall, ClosedIsNear}
+use Rattle.energy_surface.specs.WorkLaws.{is_refuted, refutations, SomeRound, UnitsAreWork, SpentHasWorked, ColumnsAreKept, IsLower, HasPurePlane, FallsAfter, Falls, PlanesFall, ClosedIsNear}
 use Rattle.energy_surface.proofs.Walks.{cuts_off}
 
 -- ---- counts
@@ -47,7 +46,7 @@ last_unrefuted (Grain low cell) r o e h = rw h refl
 -- all rounds but the last are refuted
 counted : (surface : Surface) (c : Case) (tol budget : ℕ) (a : Answer) → (h : IsLawful surface c tol budget a) → refutations a.work.rounds.items ≡ length h.earlier
 counted surface c tol budget a h =
-    let one = all_refuted surface c tol a.work (beginning h.first) h.start h.earlier h.refuted in
+    let one = all_refuted surface c tol a.work (beginning c.n h.candidates) h.start h.earlier h.refuted in
     let none = last_unrefuted h.found h.last a.outcome h.outcome h.ends.ended in
     let e = refutations-append h.earlier (h.last ∷ []) in
     rw h.rounds (omega (arith, e, one.0, none))
@@ -67,12 +66,12 @@ spent_has_worked surface c tol budget a h spent some =
 pub columns_are_kept : ColumnsAreKept
 columns_are_kept surface c tol budget a h =
     let n = counted surface c tol budget a h in
-    let one = all_refuted surface c tol a.work (beginning h.first) h.start h.earlier h.refuted in
-    omega (arith, n, one.1, h.all_columns, h.ends.columns)
+    let one = all_refuted surface c tol a.work (beginning c.n h.candidates) h.start h.earlier h.refuted in
+    (h.candidates, h.few_candidates, omega (arith, n, one.1, h.all_columns, h.ends.columns))
 
 -- ---- planes
 -- a refuted round is no round that was cut short
-searched_there : (surface : Surface) (c : Case) (tol : ℕ) (s : Start) (own : Own) (r : Round) (basis kept : Column) → IsRound surface c tol s own r basis (Refuted kept) →
+searched_there : (surface : Surface) (c : Case) (tol : ℕ) (s : Start) (own : Own) (r : Round) (basis : List ℕ) (kept : Column) → IsRound surface c tol s own r basis (Refuted kept) →
     IsSearchedRound surface c tol own basis r (Refuted kept)
 searched_there surface c tol s own r basis kept h =
     elim h.plane [
@@ -83,7 +82,7 @@ searched_there surface c tol s own r basis kept h =
 falls_below : (tol : ℕ) (up at before : ℤ) → at ≤ℤ (up +ℤ quarter_of tol) → (up +ℤ delta_of tol) <ℤ before → at <ℤ before
 falls_below tol up at before h k = omega (arith, ints, h, k)
 
-lower : (surface : Surface) (c : Case) (tol : ℕ) (w : Work) (s t : Start) (before r : Round) (basis other kept : Column) (found : Found) →
+lower : (surface : Surface) (c : Case) (tol : ℕ) (w : Work) (s t : Start) (before r : Round) (basis other : List ℕ) (kept : Column) (found : Found) →
     IsRound surface c tol s (own_of w s before) before basis (Refuted kept) → slice_get w.columns.items before.columns ≡ Some kept → r.columns ≡ before.columns + 1 →
     IsSearchedRound surface c tol (own_of w t r) other r found → IsLower surface.count w before r
 lower surface c tol w s t before r basis other kept found h at next n =
@@ -99,63 +98,35 @@ lower surface c tol w s t before r basis other kept found h at next n =
       falls_below tol kept.up (plane_at_point surface.count r.plane.lam (point_of kept)) (plane_at_point surface.count before.plane.lam (point_of kept)) over (rw cut.0.up cut.1.below),
     )
 
-first_in : (n : ℕ) (cols : List Column) (x y : Column) → slice_get (take n cols) 0 ≡ Some x → slice_get cols 0 ≡ Some y → x ≡ y
-first_in zero cols x y e f = absurd (let z : None ≡ Some x = e in cc)
-first_in (suc n) [] x y e f = absurd (let z : None ≡ Some x = e in cc)
-first_in (suc n) (col ∷ cols) x y e f = let z : Some col ≡ Some x = e in let v : Some col ≡ Some y = f in cc
-
 -- from a plane that is cut off on
-falls_after : (surface : Surface) (c : Case) (tol : ℕ) (w : Work) (first before last : Round) (s start : Start) (basis other kept one : Column) (found : Found) (rs : List Round) →
-    slice_get w.columns.items 0 ≡ Some one → first.plane.lam ≡ plane_over one →
+falls_after : (surface : Surface) (c : Case) (tol : ℕ) (w : Work) (before last : Round) (s start : Start) (basis other : List ℕ) (kept : Column) (found : Found) (rs : List Round) → surface.count ≡ c.n →
     IsRound surface c tol s (own_of w s before) before basis (Refuted kept) → slice_get w.columns.items before.columns ≡ Some kept →
-    AreRefuted surface c tol w (after before basis) rs start → IsRound surface c tol start (own_of w start last) last other found → FallsAfter surface.count w first before (rs ++ last ∷ [])
+    AreRefuted surface c tol w (after before basis) rs start → IsRound surface c tol start (own_of w start last) last other found → FallsAfter surface.count w before (rs ++ last ∷ [])
 unfolding AreRefuted FallsAfter
-falls_after surface c tol w first before last s start basis other kept one found [] is plane h at same n =
+falls_after surface c tol w before last s start basis other kept found [] count h at same n =
     let next : last.columns ≡ before.columns + 1 = n.columns ∙ sym (ap (λ (x : Start). x.columns) same) in (
       elim n.plane [
         | inl k ↦ inl (lower surface c tol w s start before last basis other kept found h at next k)
-        | inr k ↦ inr (
-          refl,
-          n.ended ∙ ap round_end k.spent,
-          k.plane ∙ ap plane_over (first_in last.columns w.columns.items k.first one k.first_is is) ∙ sym plane,
-        )
+        | inr k ↦ inr (refl, n.ended ∙ ap round_end k.spent, subst (λ m. HasPurePlane m w last) (sym count) k.plane)
       ],
       tt,
     )
-falls_after surface c tol w first before last s start basis other kept one found (r ∷ rs) is plane h at more n = (
+falls_after surface c tol w before last s start basis other kept found (r ∷ rs) count h at more n = (
   inl (lower surface c tol w s (after before basis) before r basis more.0 kept (Refuted more.1) h at more.2.columns
       (searched_there surface c tol (after before basis) (own_of w (after before basis) r) r more.0 more.1 more.2)),
-  falls_after surface c tol w first r last (after before basis) start more.0 other more.1 one found rs is plane more.2 more.3 more.4 n,
+  falls_after surface c tol w r last (after before basis) start more.0 other more.1 found rs count more.2 more.3 more.4 n,
 )
 
--- with one column there is no pivot
-alone : (x y : Column) (n : ℕ) → slice_get (x ∷ []) n ≡ Some y → x ≡ y
-alone x y zero e = let z : Some x ≡ Some y = e in cc
-alone x y (suc n) e = absurd (let z : None ≡ Some y = e in cc)
-
-no_pivot : (cols : List Column) (first basis : Column) (vs : List Pivot) → slice_get cols 0 ≡ Some first → Pivots (take 1 cols) first vs basis → first ≡ basis
-unfolding Pivots
-no_pivot cols first basis [] e h = h
-no_pivot [] first basis (v ∷ vs) e h = absurd (let z : None ≡ Some first = e in cc)
-no_pivot (col ∷ cols) first basis (v ∷ vs) e h =
-    let same : col ≡ first = let z : Some col ≡ Some first = e in cc in
-    let next : col ≡ h.0 = alone col h.0 v.enter h.1.stands in
-    let cost : h.0.cost ≡ first.cost = ap (λ (x : Column). x.cost) (sym next ∙ same) in
-    absurd (omega (arith, ints, h.1.cheaper, cost))
-
-falls : (surface : Surface) (c : Case) (tol : ℕ) (w : Work) (one : Column) (start : Start) (last : Round) (other : Column) (found : Found) (rs : List Round) → slice_get w.columns.items 0 ≡ Some one →
-    AreRefuted surface c tol w (beginning one) rs start → IsRound surface c tol start (own_of w start last) last other found → Falls surface.count w (rs ++ last ∷ [])
+falls : (surface : Surface) (c : Case) (tol : ℕ) (w : Work) (s start : Start) (last : Round) (other : List ℕ) (found : Found) (rs : List Round) → surface.count ≡ c.n →
+    AreRefuted surface c tol w s rs start → IsRound surface c tol start (own_of w start last) last other found → Falls surface.count w (rs ++ last ∷ [])
 unfolding AreRefuted FallsAfter
-falls surface c tol w one start last other found [] is h n = tt
-falls surface c tol w one start last other found (r ∷ rs) is h n =
-    let k = searched_there surface c tol (beginning one) (own_of w (beginning one) r) r h.0 h.1 h.2 in
-    let basis : one ≡ h.0 = no_pivot w.columns.items one h.0 (own_of w (beginning one) r).pivots is (rw h.2.columns at h.2.pivots) in
-    falls_after surface c tol w r r last (beginning one) start h.0 other h.1 one found rs is (k.fair.plane ∙ ap plane_over (sym basis)) h.2 h.3 h.4 n
+falls surface c tol w s start last other found [] count h n = tt
+falls surface c tol w s start last other found (r ∷ rs) count h n = falls_after surface c tol w r last s start h.0 other h.1 found rs count h.2 h.3 h.4 n
 
 pub planes_fall : PlanesFall
 planes_fall surface c tol budget a h =
     subst (λ rs. Falls surface.count a.work rs) (sym h.rounds)
-    (falls surface c tol a.work h.first h.start h.last h.basis h.found h.earlier h.first_is h.refuted h.ends)
+    (falls surface c tol a.work (beginning c.n h.candidates) h.start h.last h.basis h.found h.earlier h.answer.components h.refuted h.ends)
 
 -- ---- the gap
 near_gap : (tol : ℕ) (gap u at low : ℤ) → gap ≡ (u -ℤ at) -ℤ low → u ≤ℤ (at +ℤ quarter_of tol) → neg_ℤ (delta_of tol) ≤ℤ low → gap ≤ℤ pos (3 * tol * 2 ^ 18)

@@ -1,45 +1,50 @@
--- What makes an answer of one component lawful: a test of the finished lists of its work.
-use Rattle.std.specs.Prelude.{ℕ, ◌≡◌, ◌+◌, ◌^◌, List, [], ◌∷◌, ◌++◌, length, All, Some, slice_get, ◌≤ℤ◌}
+-- What makes an answer lawful: a test of the finished lists of its work.
+use Rattle.std.specs.Prelude.{ℕ, ◌≡◌, ◌+◌, ◌^◌, ◌<◌, ◌≤◌, if◌then◌else◌, nat_eq, List, [], ◌∷◌, ◌++◌, length, All, Some, ◌≤ℤ◌, unsigned_abs}
 use Rattle.case_types.specs.declared.answers.Answer.{Answer}
 use Rattle.case_types.specs.declared.cases.Case.{Case}
+use Rattle.case_types.specs.declared.phases.Phase.{Phase}
 use Rattle.case_types.specs.declared.rounds.Column.{Column}
 use Rattle.case_types.specs.declared.rounds.Round.{Round}
+use Rattle.case_types.specs.Arithmetic.Splits.{phase_up}
 use Rattle.case_types.specs.Grid.Visits.{edges_in}
 use Rattle.energy_surface.specs.declared.found.Found.{Found}
 use Rattle.energy_surface.specs.Columns.{IsColumn, point_up}
 use Rattle.energy_surface.specs.Outcomes.{IsAnswer, outcome_of}
-use Rattle.energy_surface.specs.Pivoting.{pure_composition, IsSplitOver}
+use Rattle.energy_surface.specs.Program.Bases.{column_at, start_places}
 use Rattle.energy_surface.specs.Rounds.{Start, own_of, IsRound, AreRefuted}
 use Rattle.energy_surface.specs.Searches.{low_of}
 use Rattle.energy_surface.specs.Surfaces.{Surface}
 
--- the component alone, with an energy of at most that at half the densest packing
-pub record IsFirstColumn (s : Surface) (col : Column) : Type 0 where
-  pub alone : col.comp ≡ pure_composition
-  pub no_higher : col.up ≤ℤ point_up s (record { composition = pure_composition; packing = 2 ^ 39 })
+-- the composition of the component k alone, in 2^-20
+abbrev pub pure_composition : ℕ → List ℕ
+pure_composition k =
+    (if nat_eq k 0 then 2 ^ 20 else 0) ∷ (if nat_eq k 1 then 2 ^ 20 else 0) ∷ (if nat_eq k 2 then 2 ^ 20 else 0) ∷ (if nat_eq k 3 then 2 ^ 20 else 0) ∷ []
 
--- before the first round there is one column, which is the basis
-abbrev pub beginning : Column → Start
-beginning first = record { columns = 1; pivots = 0; letters = 0; basis = first }
+-- the component alone, with an energy of at most that at half the densest packing
+pub record IsPureColumn (s : Surface) (k : ℕ) (col : Column) : Type 0 where
+  pub alone : col.comp ≡ pure_composition k
+  pub no_higher : col.up ≤ℤ point_up s (record { composition = pure_composition k; packing = 2 ^ 39 })
+
+-- the pure columns and these candidates are there before the first round, and the basis is that of the pure columns
+abbrev pub beginning : ℕ → ℕ → Start
+beginning n candidates = record { columns = n + candidates; pivots = 0; letters = 0; basis = start_places }
 
 -- every step of the list of work has its cause, and the answer is that of the last round
 pub record IsLawful (s : Surface) (c : Case) (tol budget : ℕ) (a : Answer) : Type 0 where
-  -- one component, for the linear program is that of one column
-  pub one : s.count ≡ 1
   pub answer : IsAnswer s c tol budget a
-  -- the columns
+  -- the columns: the pure ones first, then candidates, then one for each plane that is cut off
   pub columns : All (λ (col : Column). IsColumn s col) a.work.columns.items
-  pub first : Column
-  pub first_is : slice_get a.work.columns.items 0 ≡ Some first
-  pub first_good : IsFirstColumn s first
+  pub pure : (k : ℕ) → k < c.n → IsPureColumn s k (column_at a.work.columns.items k)
+  pub candidates : ℕ
+  pub few_candidates : candidates ≤ 32
   -- the rounds: the planes of all but the last are cut off
   pub earlier : List Round
   pub last : Round
   pub rounds : a.work.rounds.items ≡ earlier ++ last ∷ []
   pub start : Start
-  pub refuted : AreRefuted s c tol a.work (beginning first) earlier start
+  pub refuted : AreRefuted s c tol a.work (beginning c.n candidates) earlier start
   -- the last round takes the rest of the lists
-  pub basis : Column
+  pub basis : List ℕ
   pub found : Found
   pub ends : IsRound s c tol start (own_of a.work start last) last basis found
   pub all_columns : last.columns ≡ length a.work.columns.items
@@ -52,4 +57,4 @@ pub record IsLawful (s : Surface) (c : Case) (tol budget : ℕ) (a : Answer) : T
   pub low : low_of found ≡ Some a.low
   pub plane : a.plane ≡ last.plane
   pub u : a.u ≡ last.u
-  pub split : IsSplitOver basis a.split
+  pub phases : All (λ (f : Phase). unsigned_abs (phase_up s.count s.up f) < 2 ^ 49) a.split.phases.items

@@ -1,7 +1,7 @@
 pub mod Surfaces
 pub mod Columns
 pub mod Searches
-pub mod Pivoting
+pub mod Scans
 pub mod Program
 pub mod Outcomes
 pub mod Rounds

@@ -1,5 +1,5 @@
 -- Laws of lawful answers: what no list of work can be.
-use Rattle.std.specs.Prelude.{ℕ, ◌≡◌, ◌+◌, ◌*◌, ◌^◌, ◌≤◌, ◌⊎◌, Bool, true, false, List, [], ◌∷◌, length, count_by, Some, slice_get, pos, ◌≤ℤ◌, ◌<ℤ◌}
+use Rattle.std.specs.Prelude.{ℕ, ◌≡◌, ◌+◌, ◌*◌, ◌^◌, ◌≤◌, ◌⊎◌, Bool, true, false, List, [], ◌∷◌, take, length, count_by, Some, slice_get, pos, ◌≤ℤ◌, ◌<ℤ◌}
 use Rattle.case_types.specs.declared.answers.Answer.{Answer}
 use Rattle.case_types.specs.declared.answers.Outcome.TheVariants.{Closed, Spent as SpentOut}
 use Rattle.case_types.specs.declared.answers.Work.{Work}
@@ -11,6 +11,8 @@ use Rattle.case_types.specs.declared.rounds.RoundEnd.TheVariants.{Clear, Refuted
 use Rattle.case_types.specs.Grid.Columns.{point_of, plane_at_point}
 use Rattle.case_types.specs.Grid.Visits.{edges_in}
 use Rattle.energy_surface.specs.Lawful.{IsLawful}
+use Rattle.energy_surface.specs.Program.Bases.{start_places}
+use Rattle.energy_surface.specs.Program.Planes.{plane_of}
 use Rattle.energy_surface.specs.Surfaces.{Surface}
 
 -- the rounds whose planes are cut off
@@ -37,9 +39,11 @@ abbrev pub SpentHasWorked : Type 0
 SpentHasWorked = (s : Surface) (c : Case) (tol budget : ℕ) (a : Answer) → IsLawful s c tol budget a → a.outcome ≡ SpentOut → 1 ≤ budget →
     1 ≤ edges_in a.work.letters.items + refutations a.work.rounds.items + length a.work.pivots.items
 
--- each refutation keeps a column, beside the first one
+-- each refutation keeps a column, beside the pure ones and at most 32 candidates
 abbrev pub ColumnsAreKept : Type 0
-ColumnsAreKept = (s : Surface) (c : Case) (tol budget : ℕ) (a : Answer) → IsLawful s c tol budget a → length a.work.columns.items ≡ refutations a.work.rounds.items + 1
+ColumnsAreKept =
+    (s : Surface) (c : Case) (tol budget : ℕ) (a : Answer) → IsLawful s c tol budget a →
+    (candidates : ℕ) × (candidates ≤ 32) × (length a.work.columns.items ≡ c.n + candidates + refutations a.work.rounds.items)
 
 -- the plane of a round lies below that of the round before it, at the column that the latter keeps
 abbrev pub IsLower : ℕ → Work → Round → Round → Type 0
@@ -47,15 +51,18 @@ IsLower n w before r =
     (kept : Column) × (slice_get w.columns.items before.columns ≡ Some kept)
     × (plane_at_point n r.plane.lam (point_of kept) <ℤ plane_at_point n before.plane.lam (point_of kept))
 
--- so does each plane after a first round; but the last round may have the first plane, where no unit was left
-unfoldable pub FallsAfter : ℕ → Work → Round → Round → List Round → Type 0
-FallsAfter n w first before [] = Unit {0}
-FallsAfter n w first before (r ∷ rs) =
-    (IsLower n w before r ⊎ ((rs ≡ []) × (r.end ≡ Spent) × (r.plane.lam ≡ first.plane.lam))) × FallsAfter n w first r rs
+-- the plane of the pure columns among those that were kept before the round
+abbrev pub HasPurePlane : ℕ → Work → Round → Type 0
+HasPurePlane n w r = r.plane.lam ≡ plane_of n (take r.columns w.columns.items) start_places
+
+-- so does each plane after a round; but the last round may have the plane of the pure columns, where no unit was left
+unfoldable pub FallsAfter : ℕ → Work → Round → List Round → Type 0
+FallsAfter n w before [] = Unit {0}
+FallsAfter n w before (r ∷ rs) = (IsLower n w before r ⊎ ((rs ≡ []) × (r.end ≡ Spent) × HasPurePlane n w r)) × FallsAfter n w r rs
 
 abbrev pub Falls : ℕ → Work → List Round → Type 0
 Falls n w [] = ⊥
-Falls n w (r ∷ rs) = FallsAfter n w r r rs
+Falls n w (r ∷ rs) = FallsAfter n w r rs
 
 -- no plane is searched twice
 abbrev pub PlanesFall : Type 0

@@ -33,7 +33,7 @@ pub fn spent_has_worked()
     ensures { SpentHasWorked }
 {}
 
-/// Each refutation keeps a column, beside the first one.
+/// Each refutation keeps a column, beside the pure ones and at most 32 candidates.
 pub fn columns_are_kept()
     ensures { ColumnsAreKept }
 {}
