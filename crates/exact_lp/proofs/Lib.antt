@@ -15,6 +15,7 @@ pub mod LeavingPlace
 pub mod PlaneEntries
 pub mod StartBasis
 pub mod SplitOfBasis
+pub mod WeightsOfBasis
 pub mod PivotSequences
 pub mod PlanesUnderCosts
 pub mod Exports

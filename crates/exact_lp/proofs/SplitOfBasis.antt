@@ -60,11 +60,11 @@ phases_parts c cols at (suc k) i h g =
     one_phase_more c cols at k i (nat_eq (weight_of c cols at k) 0) refl h g (phases_below c cols at k)
     ∙ ap (λ (t : ℕ). t + weight_of c cols at k * slice_index (column_at cols (slice_index at k)).comp i) (phases_parts c cols at k i h g)
 
-natural_product : (a : ℤ) (x : ℕ) → pos 0 ≤ℤ a → a *ℤ pos x ≡ pos (unsigned_abs a * x)
+pub natural_product : (a : ℤ) (x : ℕ) → pos 0 ≤ℤ a → a *ℤ pos x ≡ pos (unsigned_abs a * x)
 natural_product (pos a) x h = refl
 natural_product (negsuc a) x h = absurd (omega (arith, ints, h))
 
-pos_same : (a b : ℕ) → pos a ≡ pos b → a ≡ b
+pub pos_same : (a b : ℕ) → pos a ≡ pos b → a ≡ b
 pos_same a b h = omega (arith, ints, h)
 
 weights_make : (c : Case) (cols : List Column) (at : List ℕ) → IsBasis c cols at → (i : ℕ) → i < c.n →

@@ -25,4 +25,4 @@ pub use pivoting::pivot;
 pub use planes::plane;
 pub use points::{Basis, start};
 pub use pricing::price;
-pub use splits::amounts;
+pub use splits::{BasisWeights, amounts, weights};

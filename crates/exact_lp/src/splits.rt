@@ -1,37 +1,61 @@
-//! The split of a basis.
+//! The weights of the columns of a basis, and its split.
 
-ghost use Rattle.std.specs.Prelude.{◌≡◌, ◌≤◌, ◌<◌, ◌+◌, ◌*◌, ◌^◌, ◌++◌, length, unsigned_abs};
+ghost use Rattle.std.specs.Prelude.{ℕ, ◌≡◌, ◌≤◌, ◌<◌, ◌+◌, ◌*◌, ◌^◌, ◌++◌, length, unsigned_abs, slice_index};
 ghost use Rattle.case_types.specs.Energy.Divisions.{Divides, division_of};
 ghost use Rattle.energy_surface.specs.Program.Bases.{AreColumns, IsBasis};
 ghost use Rattle.energy_surface.specs.Program.Splits.{IsBasisSplit, live_part, weighted_phase, weighted_phases};
+ghost use Rattle.exact_lp.specs.Weighed.{AreWeights};
 
 use crate::pivoting::amounts_for;
 use crate::points::{Basis, basis_frame, live_point};
 use arrayvec::ArrayVec;
 use case_types::{Case, Column, Columns, Phase, SLOTS, Split};
 
-/// The split of a basis: its columns as phases, by their amounts for the feed. It is a division of the feed, exactly.
+/// How much the columns of a basis weigh for the feed.
+#[derive(Clone, Copy, Debug, PartialEq, Eq)]
+pub struct BasisWeights {
+    /// What stands for one mole of the feed: its total times the size of the determinant.
+    pub sum: u128,
+    /// The weight of the column at each place. Those past the live components have no meaning.
+    pub of: [u128; SLOTS],
+}
+
+/// The weights of a basis: its amounts for the feed. A column of weight `w` has `w*2^20` parts of the sum.
+pub fn weights(case: &Case, columns: &Columns, basis: &Basis) -> BasisWeights
+    requires columns { AreColumns case.now.n columns.now.items }
+    requires basis { IsBasis case.now columns.now.items basis.now.at }
+    ensures { AreWeights case.now columns.now.items basis.now.at result }
+{
+    let frame = basis_frame(case.n, columns, basis);
+    let [a, b, c, d] = amounts_for(&frame, &live_point(case.n, &case.z)).u;
+    BasisWeights {
+        sum: case.total as u128 * frame.size,
+        of: [
+            a.unsigned_abs(),
+            b.unsigned_abs(),
+            c.unsigned_abs(),
+            d.unsigned_abs(),
+        ],
+    }
+}
+
+/// The split of a basis: its columns as phases, by their weights. It is a division of the feed, exactly.
 ///
-/// Parts are counted in the total of the feed times the size of the determinant. A column without an amount is no phase.
+/// A column without a weight is no phase.
 pub fn amounts(case: &Case, columns: &Columns, basis: &Basis) -> Split
     requires columns { AreColumns case.now.n columns.now.items }
     requires basis { IsBasis case.now columns.now.items basis.now.at }
     ensures split { IsBasisSplit case.now columns.now.items basis.now.at result }
     ensures divides { Divides case.now (division_of result) }
 {
-    let frame = basis_frame(case.n, columns, basis);
-    let for_feed = amounts_for(&frame, &live_point(case.n, &case.z));
+    let weights = weights(case, columns, basis);
     let mut phases: ArrayVec<Phase, SLOTS> = ArrayVec::new();
-    for k in 0..case.n {
-        add_phase(
-            case.n,
-            columns.get(basis.at[k as usize] as usize),
-            for_feed.u[k as usize].unsigned_abs(),
-            &mut phases,
-        );
+    for k in 0..case.n as usize {
+        let column = columns.get(basis.at[k] as usize);
+        add_phase(case.n, column, weights.of[k], &mut phases);
     }
     Split {
-        sum: case.total as u128 * frame.size,
+        sum: weights.sum,
         phases,
     }
 }
