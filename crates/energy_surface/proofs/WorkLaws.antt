@@ -44,18 +44,18 @@ last_unrefuted (Spent low) r o e h = rw h refl
 last_unrefuted (Grain low cell) r o e h = rw h refl
 
 -- all rounds but the last are refuted
-counted : (surface : Surface) (c : Case) (tol budget : ℕ) (a : Answer) → (h : IsLawful surface c tol budget a) → refutations a.work.rounds.items ≡ length h.earlier
+counted : (surface : Surface) (c : Case) (tol budget : ℕ) (a : Answer) → (h : IsLawful surface c tol budget a) → refutations a.work.rounds.items ≡ length h.work.earlier
 counted surface c tol budget a h =
-    let one = all_refuted surface c tol a.work (beginning c.n h.candidates) h.start h.earlier h.refuted in
-    let none = last_unrefuted h.found h.last a.outcome h.outcome h.ends.ended in
-    let e = refutations-append h.earlier (h.last ∷ []) in
-    rw h.rounds (omega (arith, e, one.0, none))
+    let one = all_refuted surface c tol a.work (beginning c.n h.work.candidates) h.work.start h.work.earlier h.work.refuted in
+    let none = last_unrefuted h.found h.work.last a.outcome h.outcome h.work.ends.ended in
+    let e = refutations-append h.work.earlier (h.work.last ∷ []) in
+    rw h.work.rounds (omega (arith, e, one.0, none))
 
 pub some_round : SomeRound
-some_round surface c tol budget a h = rw (h.rounds, length-append) (omega arith)
+some_round surface c tol budget a h = rw (h.work.rounds, length-append) (omega arith)
 
 pub units_are_work : UnitsAreWork
-units_are_work surface c tol budget a h = let n = counted surface c tol budget a h in omega (arith, h.units, n)
+units_are_work surface c tol budget a h = let n = counted surface c tol budget a h in omega (arith, h.work.units, n)
 
 pub spent_has_worked : SpentHasWorked
 spent_has_worked surface c tol budget a h spent some =
@@ -66,8 +66,8 @@ spent_has_worked surface c tol budget a h spent some =
 pub columns_are_kept : ColumnsAreKept
 columns_are_kept surface c tol budget a h =
     let n = counted surface c tol budget a h in
-    let one = all_refuted surface c tol a.work (beginning c.n h.candidates) h.start h.earlier h.refuted in
-    (h.candidates, h.few_candidates, omega (arith, n, one.1, h.all_columns, h.ends.columns))
+    let one = all_refuted surface c tol a.work (beginning c.n h.work.candidates) h.work.start h.work.earlier h.work.refuted in
+    (h.work.candidates, h.work.few_candidates, omega (arith, n, one.1, h.work.all_columns, h.work.ends.columns))
 
 -- ---- planes
 -- a refuted round is no round that was cut short
@@ -125,8 +125,8 @@ falls surface c tol w s start last other found (r ∷ rs) count h n = falls_afte
 
 pub planes_fall : PlanesFall
 planes_fall surface c tol budget a h =
-    subst (λ rs. Falls surface.count a.work rs) (sym h.rounds)
-    (falls surface c tol a.work (beginning c.n h.candidates) h.start h.last h.basis h.found h.earlier h.answer.components h.refuted h.ends)
+    subst (λ rs. Falls surface.count a.work rs) (sym h.work.rounds)
+    (falls surface c tol a.work (beginning c.n h.work.candidates) h.work.start h.work.last h.basis h.found h.work.earlier h.answer.components h.work.refuted h.work.ends)
 
 -- ---- the gap
 near_gap : (tol : ℕ) (gap u at low : ℤ) → gap ≡ (u -ℤ at) -ℤ low → u ≤ℤ (at +ℤ quarter_of tol) → neg_ℤ (delta_of tol) ≤ℤ low → gap ≤ℤ pos (3 * tol * 2 ^ 18)
@@ -138,7 +138,7 @@ spent_open found low o h e closed = let k : Some Outcomes.Spent ≡ Some o = rw 
 pub closed_is_near : ClosedIsNear
 closed_is_near surface c tol budget a h closed =
     let cause : HasCause surface tol budget a Outcomes.Closed = rw closed at h.answer.cause in
-    elim h.ends.plane [
-      | inl k ↦ near_gap tol a.gap a.u (plane_at c.n a.plane.lam c.z c.total) a.low h.answer.gap (rw (h.u, h.plane) k.fair.near) cause
+    elim h.work.ends.plane [
+      | inl k ↦ near_gap tol a.gap a.u (plane_at c.n a.plane.lam c.z c.total) a.low h.answer.gap (rw (h.work.u, h.work.plane) k.fair.near) cause
       | inr k ↦ absurd (spent_open h.found _ a.outcome h.outcome k.spent closed)
     ]

@@ -1,20 +1,12 @@
--- The scan of states of one phase: the packing fractions that it tries, and the one of least energy.
-use Rattle.std.specs.Prelude.{ℕ, ◌*◌, ◌^◌, ◌<◌, ◌≡◌, if◌then◌else◌, nat_eq, ℤ, ◌≤ℤ◌, ◌<ℤ◌}
+-- The scan of states of one phase: the packing fractions that it tries, and the energy of the feed in one phase.
+use Rattle.std.specs.Prelude.{ℕ, ◌*◌, ◌^◌, if◌then◌else◌, nat_eq, ℤ}
 use Rattle.case_types.specs.declared.cases.Case.{Case}
-use Rattle.case_types.specs.Arithmetic.Bounds.{Box, box_of_parts}
+use Rattle.case_types.specs.Arithmetic.Bounds.{box_of_parts}
 use Rattle.energy_surface.specs.Surfaces.{Surface}
 
 -- half the densest packing first, and then the multiples of a 64th of it
 abbrev pub scan_packing : ℕ → ℕ
 scan_packing k = if nat_eq k 0 then 2 ^ 39 else k * 2 ^ 34
-
--- the first packing fraction of the scan at which the upper energy over a box is least
-pub record IsScanned (s : Surface) (x : Box) (y : ℕ) : Type 0 where
-  pub place : ℕ
-  pub inside : place < 64
-  pub at : y ≡ scan_packing place
-  pub least : (k : ℕ) → k < 64 → s.up x y ≤ℤ s.up x (scan_packing k)
-  pub first : (k : ℕ) → k < place → s.up x y <ℤ s.up x (scan_packing k)
 
 -- the whole feed in one phase has at most this energy
 abbrev pub one_phase_up : Surface → Case → ℕ → ℤ

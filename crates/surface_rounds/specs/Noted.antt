@@ -39,7 +39,3 @@ pub record MakesRound (u : Under) (plane : Plane) (up : ℤ) (old new : Work) (u
   pub noted : new.rounds.items ≡ old.rounds.items ++ round_noted plane up old new.letters (round_end found) ∷ []
   pub kept : new.columns.items ≡ old.columns.items ++ columns_of found
   pub pivots : new.pivots ≡ old.pivots
-
--- the last of so many columns enters the basis
-abbrev pub last_enters : ℕ → Pivot
-last_enters columns = record { enter = columns - 1; leave = 0 }

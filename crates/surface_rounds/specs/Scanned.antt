@@ -1,0 +1,20 @@
+-- What a scan of states of one phase finds.
+use Rattle.std.specs.Prelude.{ℕ, ◌^◌, ◌<◌, ◌≡◌, ◌≤ℤ◌, ◌<ℤ◌, unsigned_abs}
+use Rattle.case_types.specs.Arithmetic.Bounds.{Box}
+use Rattle.energy_surface.specs.Scans.{scan_packing}
+use Rattle.energy_surface.specs.Surfaces.{Surface}
+use Rattle.surface_rounds.specs.declared.scans.Scanned.{Scanned}
+
+-- of the packing fractions at the places below the limit, the first one at which the upper energy over the box is least
+pub record IsScannedBelow (s : Surface) (x : Box) (limit : ℕ) (found : Scanned) : Type 0 where
+  pub place : ℕ
+  pub inside : place < limit
+  pub at : found.packing ≡ scan_packing place
+  pub up : found.up ≡ s.up x found.packing
+  pub small : unsigned_abs found.up < 2 ^ 49
+  pub least : (k : ℕ) → k < limit → found.up ≤ℤ s.up x (scan_packing k)
+  pub first : (k : ℕ) → k < place → found.up <ℤ s.up x (scan_packing k)
+
+-- of all 64
+abbrev pub IsScanned : Surface → Box → Scanned → Type 0
+IsScanned s x found = IsScannedBelow s x 64 found
