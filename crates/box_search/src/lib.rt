@@ -17,5 +17,6 @@ mod stack;
 mod tests;
 
 pub use domain::whole_low;
+pub use planes::plane_sum;
 pub use points::column_at;
 pub use searching::search;

@@ -2,7 +2,7 @@
 
 ghost use Rattle.std.specs.Prelude.{◌≡◌, ◌≤◌, ◌<◌, ◌^◌, ◌↔◌, IsTrue, pos, ◌≤ℤ◌, ◌<ℤ◌, ◌+ℤ◌, ◌*ℤ◌, unsigned_abs, slice_index_or};
 ghost use Rattle.log_laws.specs.Whole.{floor_over};
-ghost use Rattle.case_types.specs.Arithmetic.Bounds.{plane_at};
+ghost use Rattle.case_types.specs.Arithmetic.Bounds.{plane_at, plane_times};
 ghost use Rattle.case_types.specs.Grid.Columns.{point_of, plane_at_point};
 
 use case_types::{Column, Plane, SLOTS};
@@ -24,11 +24,20 @@ fn plane_on(n: u8, plane: &Plane, comp: &[u32; SLOTS]) -> i128
     ensures value { result ≡ plane_at n plane.now.lam comp.now (2 ^ 20) }
     ensures small { unsigned_abs result ≤ 2 ^ 114 }
 {
+    rounded_down(plane_sum(n, plane, comp))
+}
+
+/// The plane of `n` components at a composition, times the number of its parts, in 2^-40 bit.
+pub fn plane_sum(n: u8, plane: &Plane, parts: &[u32; SLOTS]) -> i128
+    requires { n ≤ 4 }
+    ensures value { result ≡ plane_times n plane.now.lam parts.now }
+    ensures small { unsigned_abs result ≤ 2 ^ 114 }
+{
     let mut sum = 0;
     for i in 0..n {
-        sum += product(potential(plane, i), comp[i as usize]);
+        sum += product(potential(plane, i), parts[i as usize]);
     }
-    rounded_down(sum)
+    sum
 }
 
 /// The potential of the component `i`.
@@ -40,13 +49,13 @@ fn potential(plane: &Plane, i: u8) -> i128
     plane.lam[i as usize]
 }
 
-/// A potential times a fraction, in 2^-60 bit.
-fn product(potential: i128, fraction: u32) -> i128
+/// A potential times a number of parts.
+fn product(potential: i128, parts: u32) -> i128
     requires { unsigned_abs potential < 2 ^ 80 }
-    ensures value { result ≡ potential *ℤ pos fraction }
+    ensures value { result ≡ potential *ℤ pos parts }
     ensures small { unsigned_abs result ≤ 2 ^ 112 }
 {
-    potential * fraction as i128
+    potential * parts as i128
 }
 
 /// A number in 2^-60 bit, rounded down to 2^-40 bit.

@@ -1,6 +1,6 @@
 -- The split that a round chooses.
 use Rattle.std.specs.Prelude.{ℕ, ◌*◌, ◌^◌, ◌≡◌, if◌then◌else◌, nat_lt, List, [], ◌∷◌, ℤ, ◌+ℤ◌, int_le, slice_index}
-use Rattle.log_laws.specs.Sums.{int_sum_below, list_below}
+use Rattle.log_laws.specs.Sums.{int_sum_below}
 use Rattle.case_types.specs.declared.cases.Case.{Case}
 use Rattle.case_types.specs.declared.phases.Phase.{Phase}
 use Rattle.case_types.specs.declared.phases.Split.{Split}
@@ -24,8 +24,11 @@ columns_up c cols at =
     int_sum_below c.n (λ k. share_of_energy (weight_of c cols at k * 2 ^ 20) (c.total * size c.n (system cols at)) (column_at cols (slice_index at k)).up)
 
 -- the feed as a phase, and nothing of components that aren't there
+abbrev pub feed_part : Case → ℕ → ℕ
+feed_part c i = if nat_lt i c.n then slice_index c.z i else 0
+
 abbrev pub feed_phase : Case → ℕ → Phase
-feed_phase c y = record { parts = list_below 4 (λ i. if nat_lt i c.n then slice_index c.z i else 0); packing = y }
+feed_phase c y = record { parts = feed_part c 0 ∷ feed_part c 1 ∷ feed_part c 2 ∷ feed_part c 3 ∷ []; packing = y }
 
 pub record IsOnePhase (c : Case) (y : ℕ) (s : Split) : Type 0 where
   pub sum : s.sum ≡ c.total

@@ -1,47 +1,45 @@
 //! The answer of a flash.
 
-ghost use Rattle.std.specs.Prelude.{◌≡◌, ◌≤◌, ◌<◌, ◌^◌, unsigned_abs};
+ghost use Rattle.std.specs.Prelude.{◌≡◌, ◌≤◌, ◌^◌, IsSome, IfSome, unsigned_abs};
 ghost use Rattle.case_types.specs.Arithmetic.Bounds.{plane_at};
+ghost use Rattle.energy_surface.specs.Searches.{low_of};
 ghost use Rattle.surface_rounds.specs.Answering.{IsAnswerOf};
 
-use crate::splits::split_of;
-use case_types::{Answer, Case, Column, Outcome, Plane, Units, Work};
+use crate::stages::Stage;
+use box_search::plane_sum;
+use case_types::{Answer, Case, Outcome, Plane, Split, Units, Work};
+use energy_surface::Found;
 
-/// The answer of a flash that ends with this outcome and this least low, with the basis and the plane in hand.
-pub fn answer_of(
-    case: &Case,
-    basis: &Column,
-    plane: Plane,
-    outcome: Outcome,
-    low: i128,
-    units: &Units,
-    work: Work,
-) -> Answer
-    requires one { case.now.n ≡ 1 }
-    requires packed { 1 ≤ basis.now.packing }
-    requires not_full { basis.now.packing < 2 ^ 40 }
-    requires up { unsigned_abs basis.now.up < 2 ^ 49 }
-    requires low { unsigned_abs low ≤ 2 ^ 107 }
-    ensures { IsAnswerOf case.now basis.now plane outcome low units.now.spent work result }
+/// The answer of a flash whose last round is this one, with the split that it chooses.
+pub fn answer_of(case: &Case, split: Split, stage: &Stage, units: &Units, work: Work) -> Answer
+    requires ends { IsSome (low_of stage.now.found) }
+    requires low { IfSome (low_of stage.now.found) (λ low. unsigned_abs low ≤ 2 ^ 107) }
+    requires up { unsigned_abs stage.now.chosen.u ≤ 2 ^ 109 }
+    ensures { IsAnswerOf case.now split stage.now units.now.spent work result }
 {
-    let u = basis.up as i128;
+    let (outcome, low) = match stage.found {
+        Found::AllClear { low } => (Outcome::Closed, low),
+        Found::Spent { low } => (Outcome::Spent, low),
+        Found::Grain { low, cell } => (Outcome::Grain(cell), low),
+        Found::Refuted { .. } => unreachable!(),
+    };
+    let u = stage.chosen.u;
     Answer {
         outcome,
-        split: split_of(basis),
+        split,
         u,
-        plane,
+        plane: stage.plane,
         low,
-        gap: u - at_feed(case, &plane) - low,
+        gap: u - at_feed(case, &stage.plane) - low,
         units: units.spent,
         work,
     }
 }
 
-/// The plane at the feed, in 2^-40 bit: with one component it is its one potential.
+/// The plane at the feed, rounded down to 2^-40 bit.
 fn at_feed(case: &Case, plane: &Plane) -> i128
-    requires { case.now.n ≡ 1 }
     ensures value { result ≡ plane_at case.now.n plane.now.lam case.now.z case.now.total }
-    ensures small { unsigned_abs result < 2 ^ 80 }
+    ensures small { unsigned_abs result ≤ 2 ^ 114 }
 {
-    plane.lam[0]
+    plane_sum(case.n, plane, &case.z).div_euclid(case.total as i128)
 }

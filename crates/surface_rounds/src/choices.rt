@@ -1,4 +1,9 @@
-//! The split that a round chooses, and the upper energy of the split of a basis.
+//! The split that a round chooses.
+
+ghost use Rattle.std.specs.Prelude.{◌≡◌, ◌≤◌, ◌<◌, ◌*◌, ◌^◌, length, pos, ◌≤ℤ◌, unsigned_abs, All};
+ghost use Rattle.case_types.specs.declared.rounds.Column.{Column};
+ghost use Rattle.energy_surface.specs.Program.Bases.{AreColumns, IsBasis};
+ghost use Rattle.surface_rounds.specs.Choices.{chosen, columns_up, feed_part, feed_phase, IsOnePhase, IsSplitBy};
 
 use crate::scans::Scanned;
 use arrayvec::ArrayVec;
@@ -9,7 +14,7 @@ use split_energies::energy_share;
 /// Which split of the feed is chosen.
 #[derive(Clone, Copy, Debug, PartialEq, Eq)]
 pub enum Choice {
-    /// All of it in one phase, at the packing of the scan.
+    /// All of it in one phase, at the packing fraction of the scan.
     OnePhase,
     /// The split of the basis.
     OfBasis,
@@ -26,6 +31,14 @@ pub struct Chosen {
 /// The first of the one-phase split and the split of the basis whose upper energy lies above the lesser one of the two by no
 /// more than the slack, in 2^-40 bit.
 pub fn choose(case: &Case, columns: &Columns, basis: &Basis, alone: &Scanned, slack: i128) -> Chosen
+    requires columns { AreColumns case.now.n columns.now.items }
+    requires ups { All (λ (col : Column). unsigned_abs col.up < 2 ^ 49) columns.now.items }
+    requires basis { IsBasis case.now columns.now.items basis.now.at }
+    requires alone { unsigned_abs alone.now.up < 2 ^ 49 }
+    requires slack_low { pos 0 ≤ℤ slack }
+    requires slack_high { slack ≤ℤ pos (2 ^ 34) }
+    ensures chosen { result ≡ chosen alone.now.up (columns_up case.now columns.now.items basis.now.at) slack }
+    ensures small { unsigned_abs result.u ≤ 2 ^ 109 }
 {
     let u = basis_energy(case, columns, basis);
     if alone.up <= u + slack {
@@ -41,8 +54,13 @@ pub fn choose(case: &Case, columns: &Columns, basis: &Basis, alone: &Scanned, sl
     }
 }
 
-/// The upper energy of the split of a basis, in 2^-40 bit for a mole of feed.
+/// The upper energy of the split of a basis, in 2^-40 bit for a mole of feed: those of its columns, each by its share.
 fn basis_energy(case: &Case, columns: &Columns, basis: &Basis) -> i128
+    requires columns { AreColumns case.now.n columns.now.items }
+    requires ups { All (λ (col : Column). unsigned_abs col.up < 2 ^ 49) columns.now.items }
+    requires basis { IsBasis case.now columns.now.items basis.now.at }
+    ensures value { result ≡ columns_up case.now columns.now.items basis.now.at }
+    ensures small { unsigned_abs result ≤ 2 ^ 109 }
 {
     let weights = weights(case, columns, basis);
     let mut energy = 0;
@@ -53,8 +71,19 @@ fn basis_energy(case: &Case, columns: &Columns, basis: &Basis) -> i128
     energy
 }
 
-/// The chosen split.
-pub fn split_of(case: &Case, columns: &Columns, basis: &Basis, alone: &Scanned, choice: Choice) -> Split
+/// The split that is chosen.
+pub fn split_by(
+    case: &Case,
+    columns: &Columns,
+    basis: &Basis,
+    alone: &Scanned,
+    choice: Choice,
+) -> Split
+    requires columns { AreColumns case.now.n columns.now.items }
+    requires basis { IsBasis case.now columns.now.items basis.now.at }
+    requires some { 1 ≤ alone.now.packing }
+    requires inside { alone.now.packing < 2 ^ 40 }
+    ensures { IsSplitBy case.now columns.now.items basis.now.at alone.now.packing choice result }
 {
     match choice {
         Choice::OnePhase => one_phase(case, alone.packing),
@@ -62,19 +91,23 @@ pub fn split_of(case: &Case, columns: &Columns, basis: &Basis, alone: &Scanned, 
     }
 }
 
-/// The whole feed in one phase.
+/// The whole feed in one phase, at a packing fraction in 2^-40.
 fn one_phase(case: &Case, packing: u64) -> Split
+    requires some { 1 ≤ packing }
+    requires inside { packing < 2 ^ 40 }
+    ensures { IsOnePhase case.now packing result }
 {
     let mut phases: ArrayVec<Phase, SLOTS> = ArrayVec::new();
-    phases.push(whole_feed(case, packing));
+    phases.push(feed_as_phase(case, packing));
     Split {
         sum: case.total as u128,
         phases,
     }
 }
 
-/// The feed as a phase.
-pub fn whole_feed(case: &Case, packing: u64) -> Phase
+/// The feed as a phase, at a packing fraction in 2^-40.
+pub fn feed_as_phase(case: &Case, packing: u64) -> Phase
+    ensures { result ≡ feed_phase case.now packing }
 {
     Phase {
         parts: [
@@ -89,6 +122,8 @@ pub fn whole_feed(case: &Case, packing: u64) -> Phase
 
 /// The parts of a component in the feed, and none of one that isn't live.
 fn part(case: &Case, i: usize) -> u128
+    requires { i < 4 }
+    ensures { result ≡ feed_part case.now i }
 {
     if i < case.n as usize {
         case.z[i] as u128

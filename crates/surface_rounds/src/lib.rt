@@ -1,12 +1,18 @@
-//! The rounds of a flash over any energy surface: columns, pivots, a tangent plane, and the search under it.
+//! The rounds of a flash over any energy surface of one to four components.
 //!
-//! With one component the basis of the linear program is one column, and its tangent plane is one number: the energy of
-//! the column. A search under it clears the whole domain, or finds a column below it, which enters the basis next.
+//! A round solves a linear program over the columns that are kept, for the split and the tangent plane of its optimum, and
+//! searches for a grid point below the plane. Where the search clears the whole domain the flash is closed; a grid point that
+//! lies deep enough below the plane is kept as a column of the next round. This is the tangent plane criterion (Baker, Pierce
+//! and Luks 1982) by column generation.
 #![tactic(auto)]
 
 mod answers;
+mod choices;
 mod flashing;
+mod optimizing;
+mod pure_columns;
 mod rounds;
-mod splits;
+mod scans;
+mod stages;
 
 pub use flashing::flashed;

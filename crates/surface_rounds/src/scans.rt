@@ -1,9 +1,9 @@
-//! The scan of states of one phase: 64 packing fractions, the least upper energy.
+//! The scan of states of one phase.
 
-ghost use Rattle.std.specs.Prelude.{◌≡◌, ◌≤◌, ◌<◌, ◌^◌, unsigned_abs};
+ghost use Rattle.std.specs.Prelude.{ℕ, ◌≡◌, ◌≤◌, ◌<◌, ◌^◌, neg_ℤ, pos, ◌<ℤ◌, unsigned_abs};
 ghost use Rattle.case_types.specs.Arithmetic.Bounds.{Box, box_of};
 ghost use Rattle.energy_surface.specs.Scans.{scan_packing};
-ghost use Rattle.surface_rounds.specs.Scanned.{IsScanned, IsScannedBelow};
+ghost use Rattle.surface_rounds.specs.Scanned.{IsScanned};
 
 use case_types::{BoxX, MixUp};
 use energy_surface::Surface;
@@ -20,8 +20,8 @@ pub struct Scanned {
     pub up: i128,
 }
 
-/// The packing fraction of least upper energy over a box, of half the densest packing and the multiples of a 64th of it; of
-/// equals the first.
+/// The packing fraction of least upper energy over a box: of half the densest packing and the multiples of a 64th of it, the
+/// first of equals.
 pub fn scan<S: Surface>(surface: &S, x: &BoxX) -> Scanned
     ensures { IsScanned (S.bounds surface.now) (box_of x.now) result }
 {
@@ -38,6 +38,12 @@ pub fn scan<S: Surface>(surface: &S, x: &BoxX) -> Scanned
 
 /// The state at a place of the scan.
 fn state<S: Surface>(surface: &S, mix: &MixUp, k: u64) -> Scanned
+    requires { k < 64 }
+    ensures at { result.packing ≡ scan_packing k }
+    ensures up { (x : Box) → S.is_mix_up surface.now x mix.now → result.up ≡ (S.bounds surface.now).up x result.packing }
+    ensures small { unsigned_abs result.up ≤ 2 ^ 106 }
+    ensures at_half { (x : Box) → S.is_mix_up surface.now x mix.now → k ≡ 0 → unsigned_abs result.up < 2 ^ 49 }
+    ensures not_deep { (x : Box) → S.is_mix_up surface.now x mix.now → neg_ℤ (pos (2 ^ 49)) <ℤ result.up }
 {
     let packing = packing_at(k);
     let logs = surface.logs(packing);
