@@ -17,4 +17,5 @@ pub mod StartBasis
 pub mod SplitOfBasis
 pub mod PivotSequences
 pub mod PlanesUnderCosts
+pub mod KeptColumns
 pub mod Exports
