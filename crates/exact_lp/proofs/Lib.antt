@@ -18,4 +18,5 @@ pub mod SplitOfBasis
 pub mod PivotSequences
 pub mod PlanesUnderCosts
 pub mod KeptColumns
+pub mod ColumnPhases
 pub mod Exports
