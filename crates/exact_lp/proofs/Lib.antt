@@ -19,4 +19,5 @@ pub mod PivotSequences
 pub mod PlanesUnderCosts
 pub mod KeptColumns
 pub mod ColumnPhases
+pub mod FairPlanes
 pub mod Exports
