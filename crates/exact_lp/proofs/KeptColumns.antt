@@ -24,7 +24,7 @@ cost_small (negsuc a) h = omega (arith, ints, h)
 pub up_under_cost : (s : Surface) (col : Column) → IsColumn s col → col.up ≤ℤ (col.cost *ℤ pos (2 ^ 10))
 up_under_cost s col good = rw good.cost (le-ceil_over col.up (2 ^ 10) (lit< tt))
 
-ceiling_above : (z : ℤ) (d : ℕ) → 0 < d → (neg_ℤ (floor_over (neg_ℤ z) d) *ℤ pos d) <ℤ (z +ℤ pos d)
+pub ceiling_above : (z : ℤ) (d : ℕ) → 0 < d → (neg_ℤ (floor_over (neg_ℤ z) d) *ℤ pos d) <ℤ (z +ℤ pos d)
 ceiling_above z d h = rw (neg-mul (floor_over (neg_ℤ z) d) (pos d)) (omega (arith, ints, lt-floor_over (neg_ℤ z) d h))
 
 pub cost_near_up : (s : Surface) (col : Column) → IsColumn s col → (col.cost *ℤ pos (2 ^ 10)) <ℤ (col.up +ℤ pos (2 ^ 10))

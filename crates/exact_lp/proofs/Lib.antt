@@ -20,4 +20,5 @@ pub mod PlanesUnderCosts
 pub mod KeptColumns
 pub mod ColumnPhases
 pub mod FairPlanes
+pub mod PhaseShares
 pub mod Exports
