@@ -21,4 +21,5 @@ pub mod KeptColumns
 pub mod ColumnPhases
 pub mod FairPlanes
 pub mod PhaseShares
+pub mod BasisEnergies
 pub mod Exports

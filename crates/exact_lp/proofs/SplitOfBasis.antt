@@ -41,7 +41,7 @@ part_of_phase c cols at k i h g =
     by_place (λ i. i < c.n → slice_index (weighted_phase c.n (weight_of c cols at k) (column_at cols (slice_index at k))).parts i ≡ weight_of c cols at k * slice_index (column_at cols (slice_index at k)).comp i)
     (λ h. rw (live_test 0 c.n h) refl) (λ h. rw (live_test 1 c.n h) refl) (λ h. rw (live_test 2 c.n h) refl) (λ h. rw (live_test 3 c.n h) refl) i g h
 
-no_weight : (w : ℕ) → nat_eq w 0 ≡ true → w ≡ 0
+pub no_weight : (w : ℕ) → nat_eq w 0 ≡ true → w ≡ 0
 no_weight w h = grind (arith, nat_tests)
 
 one_phase_more : (c : Case) (cols : List Column) (at : List ℕ) (k i : ℕ) (b : Bool) → nat_eq (weight_of c cols at k) 0 ≡ b → i < c.n → i < 4 → (fs : List Phase) →
