@@ -22,4 +22,5 @@ pub mod ColumnPhases
 pub mod FairPlanes
 pub mod PhaseShares
 pub mod BasisEnergies
+pub mod FairRounds
 pub mod Exports
