@@ -18,4 +18,10 @@ pub mod SplitOfBasis
 pub mod WeightsOfBasis
 pub mod PivotSequences
 pub mod PlanesUnderCosts
+pub mod KeptColumns
+pub mod ColumnPhases
+pub mod FairPlanes
+pub mod PhaseShares
+pub mod BasisEnergies
+pub mod FairRounds
 pub mod Exports

@@ -12,7 +12,7 @@ times_whole l x s y h =
     let e : pos s *ℤ (l *ℤ pos y) ≡ (l *ℤ pos s) *ℤ pos y = sym (mul_assoc_ℤ (pos s) l (pos y)) ∙ ap (λ t. t *ℤ pos y) (*ℤ_comm (pos s) l) in
     rw e (mul-le_ℤ (l *ℤ pos s) x y h)
 
-scale_out : (l : ℤ) (t y : ℕ) → (l *ℤ pos t) *ℤ pos y ≡ pos t *ℤ (l *ℤ pos y)
+pub scale_out : (l : ℤ) (t y : ℕ) → (l *ℤ pos t) *ℤ pos y ≡ pos t *ℤ (l *ℤ pos y)
 scale_out l t y = ap (λ z. z *ℤ pos y) (*ℤ_comm l (pos t)) ∙ mul_assoc_ℤ (pos t) l (pos y)
 
 cancel_le : (s : ℕ) (a b : ℤ) → 0 < s → (pos s *ℤ a) ≤ℤ (pos s *ℤ b) → a ≤ℤ b

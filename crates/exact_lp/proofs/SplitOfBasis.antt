@@ -33,15 +33,15 @@ parts_in-append : (fs : List Phase) (f : Phase) (i : ℕ) → parts_in (map stat
 parts_in-append [] f i = omega arith
 parts_in-append (g ∷ fs) f i = rw (parts_in-append fs f i) (omega arith)
 
-inside : (k n : ℕ) → k < n → nat_lt k n ≡ true
-inside k n h = grind (arith, nat_tests)
+pub live_test : (k n : ℕ) → k < n → nat_lt k n ≡ true
+live_test k n h = grind (arith, nat_tests)
 
 part_of_phase : (c : Case) (cols : List Column) (at : List ℕ) (k i : ℕ) → i < c.n → i < 4 → slice_index (weighted_phase c.n (weight_of c cols at k) (column_at cols (slice_index at k))).parts i ≡ weight_of c cols at k * slice_index (column_at cols (slice_index at k)).comp i
 part_of_phase c cols at k i h g =
     by_place (λ i. i < c.n → slice_index (weighted_phase c.n (weight_of c cols at k) (column_at cols (slice_index at k))).parts i ≡ weight_of c cols at k * slice_index (column_at cols (slice_index at k)).comp i)
-    (λ h. rw (inside 0 c.n h) refl) (λ h. rw (inside 1 c.n h) refl) (λ h. rw (inside 2 c.n h) refl) (λ h. rw (inside 3 c.n h) refl) i g h
+    (λ h. rw (live_test 0 c.n h) refl) (λ h. rw (live_test 1 c.n h) refl) (λ h. rw (live_test 2 c.n h) refl) (λ h. rw (live_test 3 c.n h) refl) i g h
 
-no_weight : (w : ℕ) → nat_eq w 0 ≡ true → w ≡ 0
+pub no_weight : (w : ℕ) → nat_eq w 0 ≡ true → w ≡ 0
 no_weight w h = grind (arith, nat_tests)
 
 one_phase_more : (c : Case) (cols : List Column) (at : List ℕ) (k i : ℕ) (b : Bool) → nat_eq (weight_of c cols at k) 0 ≡ b → i < c.n → i < 4 → (fs : List Phase) →
@@ -143,7 +143,7 @@ parts_sum n low high w x =
     by_count (λ n. sum_below 4 (slice_index (live_part n w x 0 ∷ live_part n w x 1 ∷ live_part n w x 2 ∷ live_part n w x 3 ∷ [])) ≡ w * sum_below n (slice_index x))
     (omega arith) (omega arith) (omega arith) (omega arith) n low high
 
-lt_test : (a b : ℕ) → a < b → IsTrue (nat_lt a b)
+pub lt_test : (a b : ℕ) → a < b → IsTrue (nat_lt a b)
 lt_test a b h = grind (arith, nat_tests)
 
 le_test : (a b : ℕ) → a ≤ b → IsTrue (nat_le a b)
@@ -153,7 +153,7 @@ both_tests : (a b : Bool) → IsTrue a → IsTrue b → IsTrue (a && b)
 both_tests true b h k = k
 both_tests false b h k = h
 
-some_weight : (w : ℕ) → nat_eq w 0 ≡ false → 0 < w
+pub some_weight : (w : ℕ) → nat_eq w 0 ≡ false → 0 < w
 some_weight w h = grind (arith, nat_tests)
 
 pub phase_has_parts : (n : ℕ) → 1 ≤ n → n ≤ 4 → (w : ℕ) (col : Column) → nat_eq w 0 ≡ false → w ≤ 2 ^ 80 → sum_below n (slice_index col.comp) ≡ 2 ^ 20 →
@@ -210,7 +210,7 @@ pub sum_fits : (total s : ℕ) → total ≤ 2 ^ 20 → s ≤ 2 ^ 80 → total *
 sum_fits total s h k = omega (arith, sum_small total s h k)
 
 -- ---- the phases are states
-live_parts_sum : (n : ℕ) → 1 ≤ n → n ≤ 4 → (w : ℕ) (x : List ℕ) →
+pub live_parts_sum : (n : ℕ) → 1 ≤ n → n ≤ 4 → (w : ℕ) (x : List ℕ) →
     sum_below n (slice_index (live_part n w x 0 ∷ live_part n w x 1 ∷ live_part n w x 2 ∷ live_part n w x 3 ∷ [])) ≡ w * sum_below n (slice_index x)
 live_parts_sum n low high w x =
     by_count (λ n. sum_below n (slice_index (live_part n w x 0 ∷ live_part n w x 1 ∷ live_part n w x 2 ∷ live_part n w x 3 ∷ [])) ≡ w * sum_below n (slice_index x))
@@ -222,7 +222,7 @@ has_moles n low high w col some light =
     let e = rw light at (live_parts_sum n low high w col.comp) in
     lt_test _ _ (omega (arith, e, some_weight w some))
 
-below_from : (a b : ℕ) → IsTrue (nat_lt a b) → a < b
+pub below_from : (a b : ℕ) → IsTrue (nat_lt a b) → a < b
 below_from a b h = grind (arith, nat_tests)
 
 phases_are_states : (c : Case) (cols : List Column) (at : List ℕ) → AreColumns c.n cols → IsBasis c cols at → All (IsState c.n) (map state_of (phases_below c cols at c.n))

@@ -51,8 +51,8 @@ start_spans c cols good =
 nat_up : (a : ℤ) (b : ℕ) → a *ℤ pos (2 ^ 20) ≡ pos b → pos 0 ≤ℤ a
 nat_up a b e = omega (arith, ints, e)
 
-same_number : (k i : ℕ) → nat_eq i k ≡ nat_eq k i
-same_number k i = tests (nat_eq i k) (nat_eq k i) refl refl
+pub turned_test : (k i : ℕ) → nat_eq i k ≡ nat_eq k i
+turned_test k i = tests (nat_eq i k) (nat_eq k i) refl refl
   where
     tests : (b d : Bool) → nat_eq i k ≡ b → nat_eq k i ≡ d → nat_eq i k ≡ nat_eq k i
     tests true d e f = grind (arith, nat_tests)
@@ -64,7 +64,7 @@ start_feeds c cols good i h =
     let m = system cols start_places in
     let a = amount c.n m (feed_of c) in
     let e : a i *ℤ pos (2 ^ 20) ≡ pos (size c.n m) *ℤ feed_of c i =
-    sym (pure_sum c.n a (λ k. m k i) (2 ^ 20) i h (λ k g. pure_entry c cols good k i g h ∙ ap (λ (b : Bool). pos (if b then 2 ^ 20 else 0)) (same_number k i)))
+    sym (pure_sum c.n a (λ k. m k i) (2 ^ 20) i h (λ k g. pure_entry c cols good k i g h ∙ ap (λ (b : Bool). pos (if b then 2 ^ 20 else 0)) (turned_test k i)))
     ∙ amounts_make c.n c.some c.few m (feed_of c) i h in
     nat_up (a i) (size c.n m * slice_index c.z i) e
 
