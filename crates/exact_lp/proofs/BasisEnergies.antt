@@ -1,5 +1,5 @@
 -- The upper energy of the split of a basis lies above its plane at the feed by no more than ten units.
-use Rattle.std.proofs.Common.{◌≡◌, ℕ, zero, suc, ◌*◌, ◌^◌, ◌<◌, ◌≤◌, Bool, true, false, List, ◌++◌, length, ℤ, pos, ◌+ℤ◌, ◌*ℤ◌, ◌≤ℤ◌, ◌<ℤ◌, unsigned_abs, slice_index, refl, ap, sym, ◌∙◌, arith}
+use Rattle.std.proofs.Common.{◌≡◌, ℕ, zero, suc, ◌*◌, ◌^◌, ◌<◌, ◌≤◌, Bool, true, false, List, ◌++◌, ℤ, pos, ◌+ℤ◌, ◌*ℤ◌, ◌≤ℤ◌, ◌<ℤ◌, unsigned_abs, slice_index, refl, ap, sym, ◌∙◌, arith}
 use Rattle.std.specs.Prelude.{nat_eq}
 use Rattle.std.specs.List.{All}
 use Rattle.std.proofs.Math.IntN.{*ℤ_comm}
@@ -46,10 +46,10 @@ add_share : (a e m : ℤ) (q : ℕ) → (e *ℤ pos q) ≤ℤ m → ((a +ℤ e) 
 add_share a e m q h = rw (add-mul_ℤ a e (pos q)) (omega (arith, ints, h))
 
 module _ (s : Surface) (n : ℕ) (count : s.count ≡ n) (low : 1 ≤ n) (high : n ≤ 4) (q : ℕ) (some : 0 < q) where
-  share_of_column : (w : ℕ) (col : Column) → 1 ≤ w → length col.comp ≡ 4 → IsColumn s col →
+  share_of_column : (w : ℕ) (col : Column) → 1 ≤ w → IsColumn s col →
       (share_of_energy (sum_below s.count (slice_index (weighted_phase n w col).parts)) q (phase_up s.count s.up (weighted_phase n w col)) *ℤ pos q) ≤ℤ most_of q w col.up
-  share_of_column w col weighs four good =
-      rw (up_of_column s n w col count low high weighs four good)
+  share_of_column w col weighs good =
+      rw (up_of_column s n w col count low high weighs good)
       (rw (count, live_parts_sum n low high w col.comp, light) (share_near (w * 2 ^ 20) q col.up some (below good.small)))
     where
       light : sum_below n (slice_index col.comp) ≡ 2 ^ 20
@@ -58,12 +58,12 @@ module _ (s : Surface) (n : ℕ) (count : s.count ≡ n) (low : 1 ≤ n) (high :
       below : unsigned_abs col.up < 2 ^ 49 → unsigned_abs col.up < 2 ^ 60
       below h = omega (arith, h)
 
-  one_phase_more : (fs : List Phase) (w : ℕ) (col : Column) (b : Bool) → nat_eq w 0 ≡ b → length col.comp ≡ 4 → IsColumn s col →
+  one_phase_more : (fs : List Phase) (w : ℕ) (col : Column) (b : Bool) → nat_eq w 0 ≡ b → IsColumn s col →
       (phases_up s.count s.up q (fs ++ weighted_phases n w col) *ℤ pos q) ≤ℤ (phases_up s.count s.up q fs *ℤ pos q +ℤ most_of q w col.up)
-  one_phase_more fs w col true e four good = rw (e, append-nil fs, no_weight w e) (nothing_weighs q (phases_up s.count s.up q fs *ℤ pos q) col.up)
-  one_phase_more fs w col false e four good =
+  one_phase_more fs w col true e good = rw (e, append-nil fs, no_weight w e) (nothing_weighs q (phases_up s.count s.up q fs *ℤ pos q) col.up)
+  one_phase_more fs w col false e good =
       rw (e, phases_up-append s.count s.up q fs (weighted_phase n w col))
-      (add_share (phases_up s.count s.up q fs) _ (most_of q w col.up) q (share_of_column w col (some_weight w e) four good))
+      (add_share (phases_up s.count s.up q fs) _ (most_of q w col.up) q (share_of_column w col (some_weight w e) good))
 
 one_place_more : (a b c m : ℤ) → a ≤ℤ (b +ℤ m) → b ≤ℤ c → a ≤ℤ (c +ℤ m)
 one_place_more a b c m h k = omega (arith, ints, h, k)
@@ -72,16 +72,16 @@ nothing_up : (q : ℕ) → (pos 0 *ℤ pos q) ≤ℤ pos 0
 nothing_up q = omega (arith, ints)
 
 phases_near : (s : Surface) (c : Case) (cols : List Column) (at : List ℕ) (q : ℕ) → s.count ≡ c.n → 0 < q → IsBasis c cols at →
-    All (λ (col : Column). IsColumn s col) cols → All (λ (col : Column). length col.comp ≡ 4) cols → (k : ℕ) → k ≤ c.n →
+    All (λ (col : Column). IsColumn s col) cols → (k : ℕ) → k ≤ c.n →
     (phases_up s.count s.up q (phases_below c cols at k) *ℤ pos q) ≤ℤ int_sum_below k (λ j. most_of q (weight_of c cols at j) (place cols at j).up)
 unfolding phases_below phases_up int_sum_below
-phases_near s c cols at q count some basis good four zero h = nothing_up q
-phases_near s c cols at q count some basis good four (suc k) h =
+phases_near s c cols at q count some basis good zero h = nothing_up q
+phases_near s c cols at q count some basis good (suc k) h =
     let inside = basis.inside k (omega (arith, h)) in
     one_place_more _ (phases_up s.count s.up q (phases_below c cols at k) *ℤ pos q) (int_sum_below k (λ j. most_of q (weight_of c cols at j) (place cols at j).up))
     (most_of q (weight_of c cols at k) (place cols at k).up)
-    (one_phase_more s c.n count c.some c.few q some (phases_below c cols at k) (weight_of c cols at k) (place cols at k) (nat_eq (weight_of c cols at k) 0) refl (four (slice_index at k) no_column inside) (good (slice_index at k) no_column inside))
-    (phases_near s c cols at q count some basis good four k (omega (arith, h)))
+    (one_phase_more s c.n count c.some c.few q some (phases_below c cols at k) (weight_of c cols at k) (place cols at k) (nat_eq (weight_of c cols at k) 0) refl (good (slice_index at k) no_column inside))
+    (phases_near s c cols at q count some basis good k (omega (arith, h)))
 
 -- ---- by costs
 by_cost : (w : ℕ) (a u cost : ℤ) (q : ℕ) → a ≡ pos w → u ≤ℤ (cost *ℤ pos (2 ^ 10)) → most_of q w u ≤ℤ (pos (2 ^ 30) *ℤ (a *ℤ cost) +ℤ pos (2 * q))
@@ -142,9 +142,9 @@ floor_of_feed t total s some =
     rw (*ℤ_comm (pos s) t) (rw (add-mul_ℤ (floor_over t total *ℤ pos total) (pos total) (pos s), scale_scale (floor_over t total) total s) at le)
 
 pub basis_up_near : (s : Surface) (c : Case) (cols : List Column) (at : List ℕ) → s.count ≡ c.n → IsBasis c cols at →
-    All (λ (col : Column). IsColumn s col) cols → All (λ (col : Column). length col.comp ≡ 4) cols →
+    All (λ (col : Column). IsColumn s col) cols →
     basis_up s c cols at ≤ℤ (plane_at c.n (plane_of c.n cols at) c.z c.total +ℤ pos 10)
-basis_up_near s c cols at count basis good four =
+basis_up_near s c cols at count basis good =
     let m = system cols at in
     let spans = spans_above c cols at basis in
     let q = c.total * size c.n m in
@@ -170,5 +170,5 @@ basis_up_near s c cols at count basis good four =
         let each = sum-order c.n (λ j. most_of q (weight_of c cols at j) (place cols at j).up) (λ j. pos (2 ^ 30) *ℤ (a j *ℤ costs_of cols at j) +ℤ pos (2 * q))
         (λ j h. by_cost (weight_of c cols at j) (a j) (place cols at j).up (costs_of cols at j) q (natural (a j) (basis.feeds j h))
         (up_under_cost s (place cols at j) (good (slice_index at j) no_column (basis.inside j h)))) in
-        ≤ℤ_trans _ _ _ (phases_near s c cols at q count some basis good four c.n (omega arith))
+        ≤ℤ_trans _ _ _ (phases_near s c cols at q count some basis good c.n (omega arith))
         (≤ℤ_trans _ _ _ each (costs_near c.n (λ j. a j *ℤ costs_of cols at j) q c.some c.few))

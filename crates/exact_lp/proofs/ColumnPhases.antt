@@ -68,17 +68,17 @@ box_of_column n w col low high some four point =
     (ends_whole (λ p. share_up one p m) n w col four (λ i. whole_up w (slice_index col.comp i) m above e) point.rest)
 
 -- so the upper energy is that of the column
-pub up_of_column : (s : Surface) (n w : ℕ) (col : Column) → s.count ≡ n → 1 ≤ n → n ≤ 4 → 1 ≤ w → length col.comp ≡ 4 → IsColumn s col →
+pub up_of_column : (s : Surface) (n w : ℕ) (col : Column) → s.count ≡ n → 1 ≤ n → n ≤ 4 → 1 ≤ w → IsColumn s col →
     phase_up s.count s.up (weighted_phase n w col) ≡ col.up
-up_of_column s n w col count low high some four good =
-    rw count (ap (λ x. s.up x col.packing) (box_of_column n w col low high some four (rw count at good.point)))
+up_of_column s n w col count low high some good =
+    rw count (ap (λ x. s.up x col.packing) (box_of_column n w col low high some good.entries (rw count at good.point)))
     ∙ sym good.up
 
 -- ---- the phases of a basis
 pub phases_small : (s : Surface) (c : Case) (cols : List Column) (at : List ℕ) → s.count ≡ c.n → IsBasis c cols at →
-    All (λ (col : Column). IsColumn s col) cols → All (λ (col : Column). length col.comp ≡ 4) cols →
+    All (λ (col : Column). IsColumn s col) cols →
     All (λ (f : Phase). unsigned_abs (phase_up s.count s.up f) < 2 ^ 49) (phases_below c cols at c.n)
-phases_small s c cols at count basis good four k d l =
+phases_small s c cols at count basis good k d l =
     below_from _ _ (AllPass-from_list_all (λ (f : Phase). nat_lt (unsigned_abs (phase_up s.count s.up f)) (2 ^ 49)) (phases_below c cols at c.n)
     (phases_pass (λ (f : Phase). nat_lt (unsigned_abs (phase_up s.count s.up f)) (2 ^ 49)) c cols at c.n passes) k d l)
   where
@@ -87,4 +87,4 @@ phases_small s c cols at count basis good four k d l =
     passes j h some =
         let inside = basis.inside j h in
         let col = good (slice_index at j) no_column inside in
-        lt_test _ _ (rw (up_of_column s c.n (weight_of c cols at j) (column_at cols (slice_index at j)) count c.some c.few (some_weight (weight_of c cols at j) some) (four (slice_index at j) no_column inside) col) col.small)
+        lt_test _ _ (rw (up_of_column s c.n (weight_of c cols at j) (column_at cols (slice_index at j)) count c.some c.few (some_weight (weight_of c cols at j) some) col) col.small)

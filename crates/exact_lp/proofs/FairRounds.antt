@@ -1,5 +1,5 @@
 -- The plane of an optimal basis is fair for the columns, and for the energy of a split that is near that of the basis.
-use Rattle.std.proofs.Common.{◌≡◌, ℕ, ◌≤◌, List, length, ℤ, pos, ◌+ℤ◌, ◌≤ℤ◌, arith}
+use Rattle.std.proofs.Common.{◌≡◌, ℕ, ◌≤◌, List, ℤ, pos, ◌+ℤ◌, ◌≤ℤ◌, arith}
 use Rattle.std.specs.List.{All}
 use Rattle.std.proofs.lemmas.Int.{ints}
 use Rattle.case_types.specs.declared.cases.Case.{Case}
@@ -18,11 +18,11 @@ near_feed : (u up plane : ℤ) (tol : ℕ) → 128 ≤ tol → u ≤ℤ (up +ℤ
 near_feed u up plane tol fine h k = omega (arith, ints, fine, h, k)
 
 pub fair : (s : Surface) (c : Case) (tol : ℕ) (cols : List Column) (at : List ℕ) (r : Round) → s.count ≡ c.n → 128 ≤ tol → IsBasis c cols at → IsOptimal c.n cols at →
-    All (λ (col : Column). IsColumn s col) cols → All (λ (col : Column). length col.comp ≡ 4) cols →
+    All (λ (col : Column). IsColumn s col) cols →
     r.plane.lam ≡ plane_of c.n cols at → r.u ≤ℤ (basis_up s c cols at +ℤ slack_of tol) → IsFair s c tol cols at r
-fair s c tol cols at r count fine basis optimal good four plane near = record {
+fair s c tol cols at r count fine basis optimal good plane near = record {
   plane = plane;
   optimal = optimal;
   no_deeper = rw plane (none_deeper s c tol cols at count fine basis optimal good);
-  near = rw plane (near_feed r.u (basis_up s c cols at) _ tol fine near (basis_up_near s c cols at count basis good four));
+  near = rw plane (near_feed r.u (basis_up s c cols at) _ tol fine near (basis_up_near s c cols at count basis good));
 }

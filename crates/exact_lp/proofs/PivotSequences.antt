@@ -37,7 +37,7 @@ column_at-append (d ∷ cols) col zero h = refl
 column_at-append (d ∷ cols) col (suc j) h = column_at-append cols col j (omega (arith, h))
 
 -- ---- a basis stays one
-entries_same : (n : ℕ) → 1 ≤ n → n ≤ 4 → (m p : ℕ → ℕ → ℤ) → ((k i : ℕ) → k < n → i < n → m k i ≡ p k i) → determinant n m ≡ determinant n p
+pub entries_same : (n : ℕ) → 1 ≤ n → n ≤ 4 → (m p : ℕ → ℕ → ℤ) → ((k i : ℕ) → k < n → i < n → m k i ≡ p k i) → determinant n m ≡ determinant n p
 entries_same n low high m p h =
     filled-determinant n low high m
     ∙ determinant-same 4 (filled n m) (filled n p) (λ r c. filled_same n m p h r c (nat_lt r n) (nat_lt c n) refl refl)
