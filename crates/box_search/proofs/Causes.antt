@@ -4,11 +4,9 @@ use Rattle.std.specs.Int.{w128}
 use Rattle.std.proofs.lemmas.Bool.{cases_lt}
 use Rattle.std.proofs.lemmas.Int.{ints}
 use Rattle.case_types.specs.declared.rounds.Column.{Column}
-use Rattle.energy_surface.specs.Pivoting.{pure_composition}
 use Rattle.case_types.specs.Grid.Cells.{Region, misses, edge_to_halve, is_unit, GridPoint, middle_sum, middle_point, midpoint}
 use Rattle.case_types.specs.Grid.Columns.{point_of}
 use Rattle.case_types.specs.Grid.Visits.{HasUnitEdge}
-use Rattle.log_laws.specs.Sums.{list_below}
 use Rattle.energy_surface.specs.Surfaces.{Under, plain_low}
 use Rattle.energy_surface.specs.Columns.{IsColumn, Refutes}
 use Rattle.energy_surface.specs.Searches.{IsUncleared, MiddleRefutes, IsCutOff}
@@ -22,11 +20,6 @@ there false x g e = let z : Some g ≡ Some x = e in cc
 -- the middle that is answered
 pub middle_there : (n : ℕ) (r : Region) (g : GridPoint) → Some g ≡ midpoint n r → g ≡ middle_point n r
 middle_there n r g e = there (nat_lt (2 ^ 20) (middle_sum n r) || (r.ylo + r.yhi) / 2 == 0) (middle_point n r) g e
-
--- the middle of a cell of one component is the component alone
-pub middle_pure : (n : ℕ) (r : Region) (g : GridPoint) → n ≡ 1 → Some g ≡ midpoint n r → g.composition ≡ pure_composition
-unfolding list_below
-middle_pure n r g one e = ap (λ (x : GridPoint). x.composition) (middle_there 1 r g (rw one at e))
 
 pub middle_refutes : (u : Under) (r : Region) (g : GridPoint) → midpoint u.surface.count r ≡ Some g → Refutes u g → MiddleRefutes u r
 middle_refutes u r g e h = rw e h

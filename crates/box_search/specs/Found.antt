@@ -1,5 +1,5 @@
 -- What the answer of a search says.
-use Rattle.std.specs.Prelude.{ℕ, ◌≡◌, ◌^◌, [], ◌∷◌, ℤ, neg_ℤ, ◌≤ℤ◌, ◌<ℤ◌}
+use Rattle.std.specs.Prelude.{ℕ, ◌≡◌, ℤ, neg_ℤ, ◌≤ℤ◌, ◌<ℤ◌}
 use Rattle.case_types.specs.declared.units.Units.{Units}
 use Rattle.case_types.specs.Grid.Cells.{region_of, root_region}
 use Rattle.case_types.specs.Grid.Columns.{point_of}
@@ -33,10 +33,3 @@ units_of (AllClear low) = 0
 units_of (Refuted column) = 1
 units_of (Spent low) = 0
 units_of (Grain low cell) = 0
-
--- a column of one component alone
-abbrev pub IsPure : Found → Type 0
-IsPure (AllClear low) = Unit {0}
-IsPure (Refuted column) = column.comp ≡ 2 ^ 20 ∷ 0 ∷ 0 ∷ 0 ∷ []
-IsPure (Spent low) = Unit {0}
-IsPure (Grain low cell) = Unit {0}

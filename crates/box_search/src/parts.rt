@@ -1,6 +1,6 @@
 //! Parts of bounds: what a cell that is still to be looked at has from the cell that it is a half of.
 
-ghost use Rattle.std.specs.Prelude.{◌<◌, ◌^◌, unsigned_abs};
+ghost use Rattle.std.specs.Prelude.{◌≡◌, ◌<◌, ◌^◌, length, unsigned_abs};
 
 use case_types::{Cell, MixLow, MixUp, PackingLogs, SLOTS};
 
@@ -21,6 +21,7 @@ pub struct PointParts {
     pub mix: MixUp,
     /// The logarithms at its packing fraction.
     pub logs: PackingLogs,
+    pub ghost entries: { length comp ≡ 4 },
 }
 
 /// What both halves of a cell have from it, but for the ends of the packing fraction.

@@ -4,7 +4,7 @@ ghost use Rattle.std.specs.Prelude.{◌≡◌, ◌≤◌, ◌+◌, ◌-◌, ◌*
 ghost use Rattle.case_types.specs.Grid.Cells.{letter_of, Halves};
 ghost use Rattle.energy_surface.specs.Searches.{low_of};
 ghost use Rattle.energy_surface.specs.Surfaces.{under};
-ghost use Rattle.box_search.specs.Found.{IsFound, IsPure, IsRootOpen, units_of};
+ghost use Rattle.box_search.specs.Found.{IsFound, IsRootOpen, units_of};
 ghost use Rattle.box_search.specs.Parts.{HaveParts};
 ghost use Rattle.box_search.specs.Written.{Writes, WritesSome, Closes, Searches};
 
@@ -34,7 +34,6 @@ pub fn search<S: Surface>(
     requires delta_high { delta ≤ℤ pos (2 ^ 39) }
     requires room { 2 * (units.old.budget - units.old.spent) + 200 ≤ letters.old.spare }
     ensures found { IsFound (under (S.bounds surface.now) plane.now.lam delta) units.new result }
-    ensures pure { (S.bounds surface.now).count ≡ 1 → IsPure result }
     ensures small { IfSome (low_of result) (λ low. unsigned_abs low ≤ 2 ^ 107) }
     ensures root { IsRootOpen (under (S.bounds surface.now) plane.now.lam delta) result }
     ensures letters { Writes letters.old letters.new (units.new.spent - units.old.spent) }

@@ -4,7 +4,7 @@ ghost use Rattle.std.specs.Prelude.{◌≡◌, ◌≤◌, ◌+◌, ◌-◌, ◌*
 ghost use Rattle.case_types.specs.Arithmetic.Numbers.{numbers_of};
 ghost use Rattle.energy_surface.specs.Searches.{low_of};
 ghost use Rattle.energy_surface.specs.Surfaces.{under};
-ghost use Rattle.box_search.specs.Found.{IsFound, IsPure, IsRootOpen, units_of};
+ghost use Rattle.box_search.specs.Found.{IsFound, IsRootOpen, units_of};
 ghost use Rattle.box_search.specs.Written.{Writes, Searches};
 ghost use Rattle.pr_surface.specs.PengRobinson.{surface_of};
 
@@ -26,7 +26,6 @@ pub fn search(
     requires delta_high { delta ≤ℤ pos (2 ^ 39) }
     requires room { 2 * (units.old.budget - units.old.spent) + 200 ≤ letters.old.spare }
     ensures found { IsFound (under (surface_of (numbers_of params.now.case)) plane.now.lam delta) units.new result }
-    ensures pure { (numbers_of params.now.case).count ≡ 1 → IsPure result }
     ensures small { IfSome (low_of result) (λ low. unsigned_abs low ≤ 2 ^ 107) }
     ensures root { IsRootOpen (under (surface_of (numbers_of params.now.case)) plane.now.lam delta) result }
     ensures letters { Writes letters.old letters.new (units.new.spent - units.old.spent) }

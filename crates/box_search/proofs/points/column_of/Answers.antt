@@ -16,6 +16,7 @@ returns-clause-column g c =
     let cost : c.cost_of.result ≡ ceil_over up (2 ^ 10) = rw wide at c.cost_of.ensures.value in
     let value = c.up-up.ensures.value (point_box c.args.point.now.comp) c.args.point.now.logs.packing c.requires.mix c.requires.logs in
     record {
+      entries = c.args.point.now.entries;
       point = c.requires.point;
       up = up_read ∙ value;
       small = rw up_read small;

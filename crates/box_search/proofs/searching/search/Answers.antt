@@ -11,7 +11,7 @@ use Rattle.box_search.proofs.Letters.{no_more, one_more, writes}
 use Rattle.box_search.proofs.Deep.{deep_root, deep_rest, deep_room, deep_halves}
 use Rattle.box_search.proofs.Kept.{parts_top, parts_two}
 use Rattle.box_search.proofs.Root.{begun_rest}
-use Rattle.box_search.proofs.Causes.{middle_pure, middle_refutes, uncleared, cut_off, unit_edge, no_unit_edge, wide_edge, edge_named, edge_inside, unspent}
+use Rattle.box_search.proofs.Causes.{middle_refutes, uncleared, cut_off, unit_edge, no_unit_edge, wide_edge, edge_named, edge_inside, unspent}
 use Rattle.box_search.proofs.SoFar.{IsLesser, root_meets, begins, passes, stands, halves, ended, stops_grain, low_clear}
 use Rattle.box_search.proofs.searching.search.Answers.Hand.{Mid, here_low, delta_read, not_clear, root_not_clear, cell_uncleared, far_below, lesser_of, mid_small, stopped_letters, stopped}
 use Rattle.energy_surface.proofs.Exports.{grain_of_hand}
@@ -288,8 +288,3 @@ returns-clause-searched g c =
     (sym (append-nil c.loop-half.letters.items)) (omega arith)
     (λ t before e over reached. low_clear (g.S.Surface.bounds c.args.surface.now) c.args.plane.now.lam (to_z w128 c.loop-half.low-bits) t (root_region (g.S.Surface.bounds c.args.surface.now).count) before (root_meets (g.S.Surface.bounds c.args.surface.now).count (omega (arith, c.count-n.ensures.value, c.count-n.ensures.four))) e over reached)
     (rw delta at c.loop-half.invariant.so_far)
-
-pub returns-in-Some-refuting-clause-pure : goal.returns-in-Some-refuting-clause-pure
-returns-in-Some-refuting-clause-pure g c =
-    λ one. middle_pure (g.S.Surface.bounds c.args.surface.now).count (region_of c.in-Some.half.cell) (point_of c.in-Some-refuting.column) one
-    (sym (rw c.middle_of-middle.ensures.at at c.in-Some-refuting.ensures.middle))
