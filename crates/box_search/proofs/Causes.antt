@@ -1,10 +1,9 @@
 -- Why a cell has its letter, and why a search ends at it.
-use Rattle.std.proofs.Common.{◌≡◌, ℕ, ◌+◌, ◌/◌, ◌^◌, ◌≤◌, ◌<◌, ◌-◌, ◌⊎◌, inl, inr, refl, ◌||◌, nat_lt, ◌==◌, Bool, true, false, if◌then◌else◌, Some, None, ℤ, neg_ℤ, ◌<ℤ◌, unsigned_abs, IsTrue, IsFalse, ap, arith, to_z, of_z, ◌-ℤ◌}
+use Rattle.std.proofs.Common.{◌≡◌, ℕ, ◌+◌, ◌/◌, ◌^◌, ◌≤◌, ◌<◌, ◌-◌, ◌⊎◌, inl, inr, refl, ◌||◌, nat_lt, ◌==◌, Bool, true, false, if◌then◌else◌, [], ◌∷◌, Some, None, ℤ, neg_ℤ, ◌<ℤ◌, unsigned_abs, IsTrue, IsFalse, ap, arith, to_z, of_z, ◌-ℤ◌}
 use Rattle.std.specs.Int.{w128}
 use Rattle.std.proofs.lemmas.Bool.{cases_lt}
 use Rattle.std.proofs.lemmas.Int.{ints}
 use Rattle.case_types.specs.declared.rounds.Column.{Column}
-use Rattle.energy_surface.specs.Pivoting.{pure_composition}
 use Rattle.case_types.specs.Grid.Cells.{Region, misses, edge_to_halve, is_unit, GridPoint, middle_sum, middle_point, midpoint}
 use Rattle.case_types.specs.Grid.Columns.{point_of}
 use Rattle.case_types.specs.Grid.Visits.{HasUnitEdge}
@@ -24,7 +23,7 @@ pub middle_there : (n : ℕ) (r : Region) (g : GridPoint) → Some g ≡ midpoin
 middle_there n r g e = there (nat_lt (2 ^ 20) (middle_sum n r) || (r.ylo + r.yhi) / 2 == 0) (middle_point n r) g e
 
 -- the middle of a cell of one component is the component alone
-pub middle_pure : (n : ℕ) (r : Region) (g : GridPoint) → n ≡ 1 → Some g ≡ midpoint n r → g.composition ≡ pure_composition
+pub middle_pure : (n : ℕ) (r : Region) (g : GridPoint) → n ≡ 1 → Some g ≡ midpoint n r → g.composition ≡ 2 ^ 20 ∷ 0 ∷ 0 ∷ 0 ∷ []
 unfolding list_below
 middle_pure n r g one e = ap (λ (x : GridPoint). x.composition) (middle_there 1 r g (rw one at e))
 
