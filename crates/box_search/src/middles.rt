@@ -10,9 +10,9 @@ ghost use Rattle.box_search.specs.Parts.{IsSharedMiddle, IsPoint, point_in};
 
 use crate::parts::{Half, PointParts, Shared};
 use crate::planes::refutes;
-use crate::points::{box_at, column_of};
+use crate::points::column_of;
 use case_types::{Column, MixUp, PackingLogs, Plane, SLOTS};
-use density_boxes::midpoint;
+use density_boxes::{box_at, midpoint};
 use energy_surface::Surface;
 
 /// The grid point in the middle of a cell, with its parts: those that the cell has, and new ones.

@@ -1,19 +1,15 @@
 //! Columns at grid points.
 
-ghost use Rattle.std.specs.Prelude.{◌≡◌, ◌≤◌, ◌<◌, ◌^◌, IsSome, IfSome, IfNone, unsigned_abs, slice_index};
-ghost use Rattle.log_laws.specs.Sums.{sum_below};
+ghost use Rattle.std.specs.Prelude.{◌≡◌, ◌≤◌, ◌<◌, ◌^◌, IsSome, IfSome, IfNone, unsigned_abs};
 ghost use Rattle.log_laws.specs.Whole.{ceil_over};
-ghost use Rattle.case_types.specs.Arithmetic.Bounds.{box_of};
-ghost use Rattle.case_types.specs.Grid.Columns.{IsGridPoint, point_box, point_of};
+ghost use Rattle.case_types.specs.Grid.Columns.{IsGridPoint, point_of};
 ghost use Rattle.energy_surface.specs.Columns.{IsColumn, point_up};
 ghost use Rattle.box_search.specs.Parts.{IsPoint, grid_point};
 
 use crate::parts::PointParts;
-use case_types::{BoxX, Column, SLOTS};
+use case_types::{Column, SLOTS};
+use density_boxes::box_at;
 use energy_surface::Surface;
-
-/// 1 in 2^-20.
-const WHOLE: u64 = 1 << 20;
 
 /// The column at a composition, in 2^-20, and a packing fraction, in 2^-40, if its upper energy is of size below 2^49, as it
 /// is at half the densest packing.
@@ -50,20 +46,6 @@ pub fn column_of<S: Surface>(surface: &S, point: &PointParts) -> Option<Column>
         up: up as i64,
         cost: cost_of(up) as i64,
     })
-}
-
-/// The box of one composition.
-pub fn box_at(comp: [u32; SLOTS]) -> BoxX
-    requires { sum_below 4 (slice_index comp) ≡ 2 ^ 20 }
-    ensures { box_of result ≡ point_box comp }
-{
-    let ends = [
-        comp[0] as u64 * WHOLE,
-        comp[1] as u64 * WHOLE,
-        comp[2] as u64 * WHOLE,
-        comp[3] as u64 * WHOLE,
-    ];
-    BoxX { a: ends, b: ends }
 }
 
 /// An energy in 2^-40 bit as one in 2^-30 bit, rounded up.

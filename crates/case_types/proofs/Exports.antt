@@ -5,5 +5,6 @@ pub use Rattle.case_types.proofs.Cover.{in_half, in_root, meets_at, total, has-l
 pub use Rattle.case_types.proofs.InBox.{above_plane, in_box, none_above_one}
 pub use Rattle.case_types.proofs.PlaneBound.{sums_ordered, plane_at_most}
 pub use Rattle.case_types.proofs.SplitBound.{phases_at_most}
+pub use Rattle.case_types.proofs.Totals.{total_positive}
 pub use Rattle.case_types.proofs.Walks.{each-map, each-first, each-append, edges-append}
 pub use Rattle.case_types.proofs.States.{state_of-is_state}

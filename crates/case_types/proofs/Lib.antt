@@ -12,4 +12,5 @@ mod Splits
 mod Trees
 mod Exact
 pub mod States
+pub mod Totals
 pub mod Exports

@@ -1,8 +1,10 @@
-//! The whole domain, and the compositions of a cell.
+//! The whole domain, and the compositions of a cell and of a grid point.
 
 ghost use Rattle.std.specs.Prelude.{◌≡◌, ◌≤◌, ◌+◌, ◌-◌, ◌*◌, ◌^◌, IsFalse, cond, nat_lt, slice_index};
+ghost use Rattle.case_types.specs.Arithmetic.Bounds.{box_of};
+ghost use Rattle.case_types.specs.Grid.Columns.{point_box};
 ghost use Rattle.case_types.specs.Grid.Cells.{root_region, region_of, misses as region_misses, box_of_region};
-ghost use Rattle.log_laws.specs.Sums.{list_below};
+ghost use Rattle.log_laws.specs.Sums.{list_below, sum_below};
 ghost use Rattle.density_boxes.specs.Halvings.{halvings_left};
 
 use crate::fractions::{WHOLE, composition, free_sum, rest_of};
@@ -57,6 +59,20 @@ pub fn cell_box(n: u8, cell: &Cell) -> BoxX
         a: in_packing_units(composition(n, &cell.lo, least)),
         b: in_packing_units(composition(n, &cell.hi, greatest)),
     }
+}
+
+/// The box of one composition, which is in 2^-20.
+pub fn box_at(comp: [u32; SLOTS]) -> BoxX
+    requires { sum_below 4 (slice_index comp) ≡ 2 ^ 20 }
+    ensures { box_of result ≡ point_box comp }
+{
+    let ends = [
+        comp[0] as u64 * WHOLE,
+        comp[1] as u64 * WHOLE,
+        comp[2] as u64 * WHOLE,
+        comp[3] as u64 * WHOLE,
+    ];
+    BoxX { a: ends, b: ends }
 }
 
 /// Fractions in 2^-20 as fractions in 2^-40.

@@ -1,6 +1,6 @@
 //! What is known of an energy surface: its bounds.
 
-ghost use Rattle.std.specs.Prelude.{ℕ, ◌≡◌, ◌≤◌, ◌<◌, ◌^◌, unsigned_abs, IfSome, IsFalse};
+ghost use Rattle.std.specs.Prelude.{ℕ, ◌≡◌, ◌≤◌, ◌<◌, ◌^◌, pos, neg_ℤ, ◌<ℤ◌, unsigned_abs, IfSome, IsFalse};
 ghost use Rattle.case_types.specs.declared.parts.MixLow.{MixLow};
 ghost use Rattle.case_types.specs.declared.parts.MixUp.{MixUp};
 ghost use Rattle.case_types.specs.declared.parts.PackingLogs.{PackingLogs};
@@ -57,13 +57,15 @@ pub trait Surface {
             result ≡ (bounds self.now).low x yl yh }
         ensures small { unsigned_abs result ≤ 2 ^ 106 };
 
-    /// The energy at every composition of a box and at a packing fraction is at most this.
+    /// The energy at every composition of a box and at a packing fraction is at most this. It is never as deep as -2^49, and
+    /// below 2^49 at half the densest packing.
     fn up(&self, mix: &MixUp, logs: &PackingLogs) -> i128
         requires some { 1 ≤ logs.now.packing }
         requires inside { logs.now.packing < 2 ^ 40 }
         ensures value { (x : Box) (y : ℕ) → is_mix_up self.now x mix.now → are_logs self.now y logs.now → result ≡ (bounds self.now).up x y }
         ensures small { unsigned_abs result ≤ 2 ^ 106 }
-        ensures at_half { (x : Box) → is_mix_up self.now x mix.now → are_logs self.now (2 ^ 39) logs.now → unsigned_abs result < 2 ^ 49 };
+        ensures at_half { (x : Box) → is_mix_up self.now x mix.now → are_logs self.now (2 ^ 39) logs.now → unsigned_abs result < 2 ^ 49 }
+        ensures not_deep { (x : Box) (y : ℕ) → is_mix_up self.now x mix.now → are_logs self.now y logs.now → neg_ℤ (pos (2 ^ 49)) <ℤ result };
 
     /// Over the cell the energy lies above the plane by at least this, where slopes give such a number.
     fn slope(&self, plane: &Plane, cell: &Cell) -> Option<i128>

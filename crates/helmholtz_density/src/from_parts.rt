@@ -1,6 +1,6 @@
 //! The energy at one packing, at most, from what is kept of a box and of the packing.
 
-ghost use Rattle.std.specs.Prelude.{ℕ, ◌≡◌, ◌≤◌, ◌<◌, ◌^◌, ◌+◌, unsigned_abs};
+ghost use Rattle.std.specs.Prelude.{ℕ, ◌≡◌, ◌≤◌, ◌<◌, ◌^◌, ◌+◌, pos, neg_ℤ, ◌<ℤ◌, unsigned_abs};
 ghost use Rattle.log_laws.specs.Squaring.{log_down};
 ghost use Rattle.case_types.specs.Arithmetic.Numbers.{numbers_of};
 ghost use Rattle.case_types.specs.Arithmetic.Bounds.{Box, energy_up};
@@ -41,6 +41,7 @@ pub fn up_of_parts(params: &Params, mix: &MixUp, logs: &PackingLogs) -> i128
         IsMixUp (numbers_of params.now.case) x mix.now →
         ArePackingLogs (numbers_of params.now.case) (2 ^ 39) logs.now →
         unsigned_abs result < 2 ^ 49 }
+    ensures not_deep { (y : ℕ) → ArePackingLogs (numbers_of params.now.case) y logs.now → neg_ℤ (pos (2 ^ 49)) <ℤ result }
 {
     energy_of_terms(
         mix.mixing,

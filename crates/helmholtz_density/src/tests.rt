@@ -3,9 +3,9 @@
 ghost use Rattle.std.specs.Prelude.{◌≡◌, ◌≤◌};
 
 use super::*;
-use crate::compositions::moles;
 use crate::mixes::{ONE, entropy};
 use case_types::{BoxX, Phase, SLOTS};
+use density_boxes::{moles, phase_box};
 use sample_cases::like_components;
 use std::test::Fail;
 

@@ -1,6 +1,6 @@
 //! The volume term, at most.
 
-ghost use Rattle.std.specs.Prelude.{ℕ, ◌≡◌, ◌≤◌, ◌<◌, ◌^◌, ◌+◌, ◌*◌, pos, ◌*ℤ◌, unsigned_abs};
+ghost use Rattle.std.specs.Prelude.{ℕ, ◌≡◌, ◌≤◌, ◌<◌, ◌^◌, ◌+◌, ◌*◌, pos, neg_ℤ, ◌≤ℤ◌, ◌*ℤ◌, unsigned_abs};
 ghost use Rattle.log_laws.specs.Whole.{ceil_quotient, ceil_div};
 ghost use Rattle.case_types.specs.Arithmetic.Numbers.{numbers_of};
 ghost use Rattle.case_types.specs.Arithmetic.Bounds.{covolume_scale, volume_up};
@@ -18,6 +18,7 @@ pub fn volume(params: &Params, b: u128, logs: &PackingLogs) -> i128
         result ≡ volume_up (numbers_of params.now.case) (pos b) y }
     ensures small { unsigned_abs result ≤ 2 ^ 87 }
     ensures at_half { ArePackingLogs (numbers_of params.now.case) (2 ^ 39) logs.now → unsigned_abs result ≤ 2 ^ 47 + 2 ^ 40 }
+    ensures not_deep { neg_ℤ (pos (2 ^ 47)) ≤ℤ result }
 {
     logs.packing_high + push(params, b, logs.packing) as i128
 }

@@ -2,14 +2,14 @@
 use Rattle.std.proofs.Common.{◌≡◌, ℕ, ◌<◌, ◌≤◌, Bool, ℤ, pos, neg_ℤ, ◌≤ℤ◌, ◌&&◌, to_z, of_z, arith}
 use Rattle.std.specs.Int.{w32}
 use Rattle.std.proofs.lemmas.Int.{ints}
-use Rattle.std.specs.Prelude.{int_le, nat_le, slice_index}
+use Rattle.std.specs.Prelude.{int_le}
 use Rattle.std.proofs.Math.Nat.{mul-le-mul}
 use Rattle.case_types.specs.declared.cases.Case.{Case}
-use Rattle.case_types.specs.Energy.Components.{critical_temperature, critical_pressure, acentric_factor, interaction, feed}
+use Rattle.case_types.specs.Energy.Components.{critical_temperature, critical_pressure, acentric_factor, interaction}
 use Rattle.case_types.specs.Energy.Parameters.{covolume_den}
 use Rattle.case_types.specs.Ranges.{entry, is_interaction, is_critical_temperature, is_critical_pressure, is_acentric_factor}
 use Rattle.log_laws.specs.Sums.{all_below}
-use Rattle.log_laws.proofs.Exports.{le-sum_below, all_below-at, and_true}
+use Rattle.log_laws.proofs.Exports.{all_below-at, and_true}
 use Rattle.pr_params.proofs.Component.{at_most, int_at_most, IsComponent}
 
 -- the ranges of the component hold
@@ -76,13 +76,3 @@ den_positive_at c i h =
     let k = component_at c i h in
     let p = mul-le-mul k.pc_low c.t_low in
     omega (arith, p)
-
--- each component has a part of the feed
-pub feed_at : (c : Case) (i : ℕ) → i < c.n → 1 ≤ feed c i
-feed_at c i h = at_most 1 (feed c i) (all_below-at c.n (λ i. nat_le 1 (slice_index c.z i)) i h c.live)
-
-pub total_positive : (c : Case) → 0 < c.total
-total_positive c =
-    let live = feed_at c 0 c.some in
-    let part = le-sum_below c.n 0 (slice_index c.z) c.some in
-    omega (arith, live, part, c.added)

@@ -2,7 +2,6 @@
 pub use Rattle.pr_params.proofs.Accepted.{e_lo_is, e_hi_is, e_exact}
 pub use Rattle.pr_params.proofs.Argument.{positive_between, packing_positive, state_packing, rest_parts}
 pub use Rattle.pr_params.proofs.AttractionTerm.{state_attraction_least, state_attraction_most}
-pub use Rattle.pr_params.proofs.Components.{total_positive}
 pub use Rattle.pr_params.proofs.EnergyTerms.{energy_by_terms}
 pub use Rattle.pr_params.proofs.Lambda.{respelled}
 pub use Rattle.pr_params.proofs.MeansHold.{holds_means, ratio_high_positive, sized, ratio_low_positive}

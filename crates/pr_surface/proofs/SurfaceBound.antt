@@ -1,20 +1,22 @@
--- The surface of Peng and Robinson bounds their energy, so lows of its cells bound divisions.
+-- The surface of Peng and Robinson bounds their energy, so lows of its cells bound divisions, and upper energies bound splits.
 use Rattle.std.proofs.Common.{◌≡◌, ℕ, ◌<◌, ◌≤◌, ◌^◌, pos, ◌<ℤ◌, sym, subst, refl, arith}
 use Rattle.std.proofs.lemmas.Int.{ints}
 use Rattle.log_laws.specs.Fraction.{Fraction, IsSame}
-use Rattle.log_laws.specs.LogSum.{ratio}
+use Rattle.log_laws.specs.LogSum.{AtMost, ratio}
 use Rattle.case_types.specs.Arithmetic.Bounds.{one}
 use Rattle.case_types.specs.Grid.Cells.{root_region}
-use Rattle.case_types.specs.Energy.Divisions.{IsState, energy_of}
+use Rattle.case_types.specs.Energy.Divisions.{IsState, bits, division_of, energy_of, energy_of_division}
 use Rattle.case_types.specs.Arithmetic.Holding.{IsInBox}
 use Rattle.case_types.specs.Arithmetic.Numbers.{numbers_of}
+use Rattle.case_types.specs.Arithmetic.Splits.{split_up}
+use Rattle.case_types.proofs.Exports.{total_positive}
 use Rattle.energy_surface.specs.Energies.{HasFractions}
 use Rattle.energy_surface.specs.Surfaces.{IsOver}
-use Rattle.energy_surface.proofs.Exports.{lows_certify as surface_lows_certify}
-use Rattle.pr_params.proofs.Exports.{count_of, total_positive}
+use Rattle.energy_surface.proofs.Exports.{lows_certify as surface_lows_certify, uppers_certify as surface_uppers_certify}
+use Rattle.pr_params.proofs.Exports.{count_of}
 use Rattle.helmholtz_density.proofs.Exports.{energy_up_holds}
 use Rattle.tangent_bound.proofs.Exports.{energy_low_holds}
-use Rattle.pr_surface.specs.Bounding.{NumbersBound, LowsCertify}
+use Rattle.pr_surface.specs.Bounding.{NumbersBound, LowsCertify, UppersCertify}
 use Rattle.pr_surface.specs.PengRobinson.{surface_of}
 
 -- a packing of y units is strictly between 0 and 1 where y is
@@ -44,3 +46,10 @@ lows_certify c x lam low d accepted inst over divides =
     let s = surface_of (numbers_of c) in
     let whole = subst (λ (n : ℕ). IsOver s lam low (root_region n)) (sym (count_of c)) over in
     surface_lows_certify s (energy_of c x) c lam low d (numbers_bound c x accepted inst) (count_of c) (total_positive c) whole divides
+
+-- a split has at most its upper energy
+pub uppers_certify : UppersCertify
+uppers_certify c x split accepted inst divides =
+    let s = surface_of (numbers_of c) in
+    subst (λ (n : ℕ). AtMost (energy_of_division c x (division_of split)) (bits (split_up n s.up split))) (count_of c)
+    (surface_uppers_certify s (energy_of c x) c split (numbers_bound c x accepted inst) (count_of c) divides)

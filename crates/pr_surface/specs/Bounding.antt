@@ -1,12 +1,14 @@
--- What it says that the surface of Peng and Robinson bounds their energy, and what lows of its cells then promise.
+-- What it says that the surface of Peng and Robinson bounds their energy, and what lows of its cells and upper energies then promise.
 use Rattle.std.specs.Prelude.{◌≡◌, None, List, ℤ, ◌+ℤ◌}
-use Rattle.log_laws.specs.LogSum.{AtLeast}
+use Rattle.log_laws.specs.LogSum.{AtLeast, AtMost}
 use Rattle.case_types.specs.declared.cases.Case.{Case}
-use Rattle.case_types.specs.Arithmetic.Bounds.{plane_at}
-use Rattle.case_types.specs.Energy.Divisions.{energy_of, bits, Division, Divides, energy_of_division}
+use Rattle.case_types.specs.declared.phases.Split.{Split}
+use Rattle.case_types.specs.Arithmetic.Bounds.{energy_up, plane_at}
+use Rattle.case_types.specs.Energy.Divisions.{energy_of, bits, Division, Divides, division_of, energy_of_division}
 use Rattle.case_types.specs.Arithmetic.Faults.{fault_of}
 use Rattle.case_types.specs.Energy.Instances.{Instance, IsInstance}
 use Rattle.case_types.specs.Arithmetic.Numbers.{numbers_of, enclosures_of}
+use Rattle.case_types.specs.Arithmetic.Splits.{split_up}
 use Rattle.case_types.specs.Grid.Cells.{root_region}
 use Rattle.energy_surface.specs.Energies.{Bounds}
 use Rattle.energy_surface.specs.Surfaces.{IsOver}
@@ -22,3 +24,9 @@ LowsCertify =
     (c : Case) (x : Instance) (lam : List ℤ) (low : ℤ) (d : Division) → fault_of c ≡ None → IsInstance c (enclosures_of c) x →
     IsOver (surface_of (numbers_of c)) lam low (root_region c.n) → Divides c d →
     AtLeast (energy_of_division c x d) (bits (plane_at c.n lam c.z c.total +ℤ low))
+
+-- and a split has at most its upper energy
+abbrev pub UppersCertify : Type 0
+UppersCertify =
+    (c : Case) (x : Instance) (s : Split) → fault_of c ≡ None → IsInstance c (enclosures_of c) x → Divides c (division_of s) →
+    AtMost (energy_of_division c x (division_of s)) (bits (split_up c.n (energy_up (numbers_of c)) s))

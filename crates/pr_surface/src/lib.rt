@@ -1,4 +1,4 @@
-//! The energy surface of Peng and Robinson: its bounds, that they bound the energy, and its search.
+//! The energy surface of Peng and Robinson: its bounds, that they bound the energy, its search, and the energies of its splits.
 #![tactic(auto)]
 
 mod laws;
@@ -6,7 +6,9 @@ mod peng_robinson;
 #[cfg(test)]
 mod searches;
 mod searching;
+mod splits;
 
 pub use laws::{lows_certify, numbers_bound};
 pub use peng_robinson::PengRobinson;
 pub use searching::search;
+pub use splits::split_energy;

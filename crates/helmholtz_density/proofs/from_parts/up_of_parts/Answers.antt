@@ -1,4 +1,6 @@
-use Rattle.std.proofs.Common.{◌≡◌, ◌∙◌, ◌≤◌, ◌-◌, ◌^◌, pos, neg_ℤ, arith}
+use Rattle.std.proofs.Common.{◌≡◌, ◌∙◌, ◌≤◌, ◌-◌, ◌^◌, ℤ, pos, neg_ℤ, ◌+ℤ◌, ◌-ℤ◌, ◌≤ℤ◌, ◌<ℤ◌, unsigned_abs, arith}
+use Rattle.std.proofs.lemmas.Int.{ints}
+use Rattle.log_enclose.proofs.Exports.{log_down_power_high}
 use Rattle.log_laws.specs.Squaring.{log_down}
 use Rattle.log_laws.proofs.Exports.{back}
 use Rattle.case_types.specs.Arithmetic.Bounds.{one, ratio_low, volume_up, covolume_range, attraction_term_low}
@@ -47,3 +49,30 @@ returns-clause-at_half c = λ x of is.
       rest,
     ) at c.energy_of_terms.ensures.sum in
     rw (back c.energy_of_terms.result (omega (arith, s))) (omega (arith, sum, h, q, mix.mixing_small, mix.log_small))
+
+-- terms of which none is deep
+not_deep : (m v l k q : ℤ) → unsigned_abs m ≤ 2 ^ 46 → neg_ℤ (pos (2 ^ 47)) ≤ℤ v → unsigned_abs l ≤ 2 ^ 46 → k ≤ℤ pos 0 → unsigned_abs q ≤ 2 ^ 48 - 2 ^ 45 →
+    neg_ℤ (pos (2 ^ 49)) <ℤ (m +ℤ v -ℤ l -ℤ k -ℤ q)
+not_deep m v l k q hm hv hl hk hq = omega (arith, ints)
+
+pub returns-clause-not_deep : goal.returns-clause-not_deep
+returns-clause-not_deep c = λ y is.
+    let mix = c.args.mix.now in
+    let logs = c.args.logs.now in
+    let v = c.volume.ensures.small in
+    let q = c.attraction_term_low.ensures.small in
+    let s = c.energy_of_terms.ensures.small in
+    let packing = is.packing in
+    let rest : 1 ≤ one - y = omega (arith, packing, c.requires.inside) in
+    let below = log_down_power_high (one - y) 40 40 rest (omega arith) (omega (arith, packing, c.requires.some)) in
+    let log : logs.rest_low ≡ log_down (one - y) 40 = is.rest_low ∙ log_some log_down (one - y) rest in
+    let sum = rw (
+      back mix.mixing (omega (arith, mix.mixing_small)),
+      back c.volume.result (omega (arith, v)),
+      back mix.log_covolume (omega (arith, mix.log_small)),
+      back logs.rest_low (omega (arith, logs.rest_low_small)),
+      back c.attraction_term_low.result (omega (arith, q)),
+    ) at c.energy_of_terms.ensures.value in
+    rw (back c.energy_of_terms.result (omega (arith, s)), sum)
+    (not_deep mix.mixing c.volume.result mix.log_covolume logs.rest_low c.attraction_term_low.result mix.mixing_small c.volume.ensures.not_deep mix.log_small
+    (rw log (omega (arith, ints, below))) q)

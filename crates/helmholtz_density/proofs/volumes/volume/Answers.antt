@@ -33,3 +33,9 @@ returns-clause-at_half c = λ is.
     let h = c.push.ensures.at_half is.packing in
     let log : l.packing_high ≡ neg_ℤ (pos (2 ^ 40)) = is.packing_high ∙ log_up_of_half in
     rw (natural_sum_read l.packing_high c.push.result (omega (arith, l.packing_high_small)) (omega (arith, s)), log) (omega (arith, ints, h))
+
+pub returns-clause-not_deep : goal.returns-clause-not_deep
+returns-clause-not_deep c =
+    let l = c.args.logs.now in
+    let s = c.push.ensures.small in
+    rw (natural_sum_read l.packing_high c.push.result (omega (arith, l.packing_high_small)) (omega (arith, s))) (omega (arith, ints, l.packing_high_small))

@@ -1,9 +1,8 @@
 use Rattle.std.proofs.Common.{ℕ, ◌≡◌, ◌*◌, ◌^◌, ◌≤◌, ℤ, ◌+ℤ◌, unsigned_abs, List, drop}
 use Rattle.case_types.specs.declared.phases.Phase.{Phase}
-use Rattle.case_types.specs.Arithmetic.Bounds.{Box, energy_up}
-use Rattle.case_types.specs.Arithmetic.Numbers.{numbers_of}
+use Rattle.case_types.specs.Arithmetic.Bounds.{Box}
 use Rattle.case_types.specs.Arithmetic.Splits.{phases_up}
-use Rattle.helmholtz_density.proofs.splits.split_energy.Given as goal
+use Rattle.split_energies.proofs.splits.split_energy.Given as goal
 
 -- what is summed, with what is left, is the whole
 pub record Sums (n : ℕ) (up : Box → ℕ → ℤ) (sum : ℕ) (energy : ℤ) (index : ℕ) (phases : List Phase) : Type 0 where
@@ -11,4 +10,4 @@ pub record Sums (n : ℕ) (up : Box → ℕ → ℤ) (sum : ℕ) (energy : ℤ) 
   pub small : unsigned_abs energy ≤ index * 2 ^ 107
 
 abbrev pub invariant-loop-phase : goal.invariant-loop-phase
-invariant-loop-phase l = Sums l.params.case.n (energy_up (numbers_of l.params.case)) l.split.sum l.energy l.phase-index l.split.phases.items
+invariant-loop-phase g l = Sums l.case.n (g.S.Surface.bounds l.surface).up l.split.sum l.energy l.phase-index l.split.phases.items

@@ -1,8 +1,8 @@
 use Rattle.std.proofs.Common.{ℕ, ◌≡◌, ◌≤◌, ◌^◌, ℤ, ◌+ℤ◌, pos, to_z, of_z, unsigned_abs, arith, rules}
 use Rattle.std.proofs.lemmas.Int.{ints}
 use mir.Syntax.{w128}
-use Rattle.helmholtz_density.proofs.Weighed.{share_is}
-use Rattle.helmholtz_density.proofs.splits.shared.Goals as goal
+use Rattle.split_energies.proofs.Weighed.{share_is}
+use Rattle.split_energies.proofs.shares.shared.Goals as goal
 
 added : (p : ℤ) (n : ℕ) → unsigned_abs p ≤ 2 ^ 106 → n ≤ 2 ^ 60 → to_z w128 (of_z w128 (to_z w128 (of_z w128 p) +ℤ to_z w128 n)) ≡ p +ℤ pos n
 added p n h l = omega (arith, ints)

@@ -1,6 +1,6 @@
 use Rattle.std.proofs.Common.{◌+◌, slice_index, arith}
 use Rattle.log_laws.proofs.Exports.{sum_below-more, sum_below-fewer}
-use Rattle.helmholtz_density.proofs.compositions.moles.Goals as goal
+use Rattle.density_boxes.proofs.compositions.moles.Goals as goal
 
 pub overflow_add-sum : goal.overflow_add-sum
 overflow_add-sum c =

@@ -4,8 +4,8 @@ use Rattle.case_types.specs.Arithmetic.Bounds.{Box, box_of_parts}
 use Rattle.case_types.specs.Energy.Divisions.{state_of}
 use Rattle.case_types.specs.Arithmetic.Holding.{IsInBox}
 use Rattle.case_types.proofs.Exports.{IsBox, in_box_of_parts, parts_box}
-use Rattle.helmholtz_density.proofs.compositions.phase_box.Goals as goal
-use Rattle.helmholtz_density.proofs.compositions.phase_box.Goals.{After-fraction_ends-fourth}
+use Rattle.density_boxes.proofs.compositions.phase_box.Goals as goal
+use Rattle.density_boxes.proofs.compositions.phase_box.Goals.{After-fraction_ends-fourth}
 
 -- the box that the code makes
 abbrev made : After-fraction_ends-fourth → Box

@@ -1,6 +1,6 @@
 use Rattle.std.proofs.Common.{slice_index, arith}
 use Rattle.log_laws.proofs.Exports.{le-sum_below}
-use Rattle.helmholtz_density.proofs.compositions.fraction_ends.Goals as goal
+use Rattle.density_boxes.proofs.compositions.fraction_ends.Goals as goal
 
 pub grid_ends-requires-clause-inside : goal.grid_ends-requires-clause-inside
 grid_ends-requires-clause-inside c =

@@ -4,7 +4,7 @@ use Rattle.std.proofs.Math.ListN.{get_or-map, length-map, drop_of_length-le}
 use Rattle.std.proofs.Math.Nat.{eq_of_mul-eq-mul_left}
 use Rattle.std.proofs.Math.Seq.{drop-cons}
 use Rattle.std.proofs.lemmas.Int.{ints}
-use Rattle.pr_params.proofs.Exports.{total_positive}
+use Rattle.case_types.proofs.Exports.{total_positive}
 use Rattle.log_laws.specs.Sums.{sum_below}
 use Rattle.log_laws.proofs.Exports.{sum_below-scaled, sum_below-scaled_same}
 use Rattle.case_types.specs.declared.cases.Case.{Case}

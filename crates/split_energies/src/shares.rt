@@ -1,0 +1,53 @@
+//! Shares of energies.
+
+ghost use Rattle.std.specs.Prelude.{◌≡◌, ◌≤◌, ◌<◌, ◌^◌, pos, ◌+ℤ◌, ◌*ℤ◌, unsigned_abs};
+ghost use Rattle.log_laws.specs.Whole.{ceil_div, floor_div, ceil_quotient};
+
+/// A share in 2^-60 of an energy, rounded up.
+pub fn shared(share: u128, energy: i128) -> i128
+    requires share { share ≤ 2 ^ 60 }
+    requires energy { unsigned_abs energy ≤ 2 ^ 106 }
+    ensures value { result ≡ ceil_div (pos share *ℤ energy) (pos (2 ^ 60)) }
+    ensures small { unsigned_abs result ≤ 2 ^ 107 }
+{
+    let whole = whole_part(energy);
+    part(share, whole) + raised(share * rest_part(energy, whole)) as i128
+}
+
+/// The whole part of a number in 2^-60.
+fn whole_part(energy: i128) -> i128
+    requires { unsigned_abs energy ≤ 2 ^ 106 }
+    ensures value { result ≡ floor_div energy (pos (2 ^ 60)) }
+    ensures small { unsigned_abs result ≤ 2 ^ 46 }
+{
+    energy >> 60
+}
+
+/// What is left of a number in 2^-60 beside its whole part.
+fn rest_part(energy: i128, whole: i128) -> u128
+    requires energy { unsigned_abs energy ≤ 2 ^ 106 }
+    requires whole { whole ≡ floor_div energy (pos (2 ^ 60)) }
+    ensures value { pos result +ℤ whole *ℤ pos (2 ^ 60) ≡ energy }
+    ensures small { result < 2 ^ 60 }
+{
+    (energy - whole * (1 << 60)) as u128
+}
+
+/// A share of a whole number.
+fn part(share: u128, whole: i128) -> i128
+    requires share { share ≤ 2 ^ 60 }
+    requires whole { unsigned_abs whole ≤ 2 ^ 46 }
+    ensures value { result ≡ pos share *ℤ whole }
+    ensures small { unsigned_abs result ≤ 2 ^ 106 }
+{
+    share as i128 * whole
+}
+
+/// A number in 2^-60, rounded up.
+fn raised(x: u128) -> u128
+    requires { x ≤ 2 ^ 120 }
+    ensures value { result ≡ ceil_quotient x (2 ^ 60) }
+    ensures small { result ≤ 2 ^ 60 }
+{
+    x.div_ceil(1 << 60)
+}
