@@ -6,4 +6,5 @@ mod shares;
 mod splits;
 
 pub use phases::phase_energy;
+pub use shares::energy_share;
 pub use splits::split_energy;

@@ -2,9 +2,26 @@
 
 ghost use Rattle.std.specs.Prelude.{◌≡◌, ◌≤◌, ◌<◌, ◌^◌, pos, ◌+ℤ◌, ◌*ℤ◌, unsigned_abs};
 ghost use Rattle.log_laws.specs.Whole.{ceil_div, floor_div, ceil_quotient};
+ghost use Rattle.case_types.specs.Arithmetic.Splits.{share_of_energy};
+
+use fix_interval::ratio_ends;
+
+/// The energy of some parts of a sum, by their share: at most this, in 2^-40 bit for a mole of the sum, where a mole of the
+/// parts has at most `energy`.
+pub fn energy_share(parts: u128, sum: u128, energy: i128) -> i128
+    requires some { 1 ≤ sum }
+    requires inside { parts ≤ sum }
+    requires sum { sum < 2 ^ 104 }
+    requires energy { unsigned_abs energy ≤ 2 ^ 106 }
+    ensures value { result ≡ share_of_energy parts sum energy }
+    ensures small { unsigned_abs result ≤ 2 ^ 107 }
+{
+    let (least, greatest) = ratio_ends(parts, sum, 60);
+    shared(if energy >= 0 { greatest } else { least }, energy)
+}
 
 /// A share in 2^-60 of an energy, rounded up.
-pub fn shared(share: u128, energy: i128) -> i128
+fn shared(share: u128, energy: i128) -> i128
     requires share { share ≤ 2 ^ 60 }
     requires energy { unsigned_abs energy ≤ 2 ^ 106 }
     ensures value { result ≡ ceil_div (pos share *ℤ energy) (pos (2 ^ 60)) }

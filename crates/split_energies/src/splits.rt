@@ -6,11 +6,10 @@ ghost use Rattle.case_types.specs.Arithmetic.Splits.{phase_up, share_of_energy, 
 ghost use Rattle.case_types.specs.Energy.Divisions.{Divides, division_of};
 
 use crate::phases::phase_energy;
-use crate::shares::shared;
+use crate::shares::energy_share;
 use case_types::{Case, Phase, Split};
 use density_boxes::moles;
 use energy_surface::Surface;
-use fix_interval::ratio_ends;
 
 /// The energy of the split is at most this, in 2^-40 bit for a mole of feed.
 pub fn split_energy<S: Surface>(surface: &S, case: &Case, split: &Split) -> i128
@@ -39,7 +38,5 @@ fn weighed_energy<S: Surface>(surface: &S, case: &Case, sum: u128, phase: &Phase
     ensures small { unsigned_abs result ≤ 2 ^ 107 }
 {
     let up = phase_energy(surface, case, phase);
-    let parts = moles(case.n, phase);
-    let (least, greatest) = ratio_ends(parts, sum, 60);
-    shared(if up >= 0 { greatest } else { least }, up)
+    energy_share(moles(case.n, phase), sum, up)
 }
