@@ -30,6 +30,12 @@ pub record AreKept (s : Surface) (c : Case) (cols : List Column) : Type 0 where
   pub enough : c.n ≤ length cols
   pub pure : (k : ℕ) → k < c.n → IsPureColumn s k (column_at cols k)
 
+-- the columns of the first n components alone, in their order
+pub record ArePure (s : Surface) (n : ℕ) (cols : List Column) : Type 0 where
+  pub columns : All (λ (col : Column). IsColumn s col) cols
+  pub counted : length cols ≡ n
+  pub pure : (k : ℕ) → k < n → IsPureColumn s k (column_at cols k)
+
 -- all planes so far are cut off, and pivots since the last of them have led to the basis
 pub record IsFlashing (s : Surface) (c : Case) (tol spent : ℕ) (w : Work) (at : List ℕ) : Type 0 where
   pub kept : AreKept s c w.columns.items

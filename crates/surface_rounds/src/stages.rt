@@ -29,7 +29,7 @@ pub struct Stage {
 }
 
 /// A round of a flash. `tol` is the tolerance in 2^-20 bit, and `alone` the state of one phase of least energy in the scan.
-pub fn stage<S: Surface>(
+pub fn next_stage<S: Surface>(
     surface: &S,
     case: &Case,
     tol: u32,
