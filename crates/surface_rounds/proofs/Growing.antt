@@ -98,7 +98,7 @@ stays surface c tol old new s last (r ∷ rs) g a p l h =
     )
 
 -- one round more
-pub one_more : (surface : Surface) (c : Case) (tol : ℕ) (w : Work) (s mid : Start) (rs : List Round) (r : Round) (basis kept : Column) → AreRefuted surface c tol w s rs mid →
+pub one_more : (surface : Surface) (c : Case) (tol : ℕ) (w : Work) (s mid : Start) (rs : List Round) (r : Round) (basis : List ℕ) (kept : Column) → AreRefuted surface c tol w s rs mid →
     IsRound surface c tol mid (own_of w mid r) r basis (Refuted kept) → slice_get w.columns.items r.columns ≡ Some kept → AreRefuted surface c tol w s (rs ++ r ∷ []) (after r basis)
 unfolding AreRefuted
 one_more surface c tol w s mid [] r basis kept h n at = (basis, kept, rw h n, at, refl)

@@ -1,5 +1,5 @@
 -- A flash between its rounds, and what a round leaves.
-use Rattle.std.specs.Prelude.{ℕ, ◌≡◌, ◌+◌, ◌-◌, ◌<◌, ◌≤◌, ◌×◌, ◌⊎◌, List, ◌++◌, length, All, Some, slice_range, ℤ, neg_ℤ, ◌<ℤ◌}
+use Rattle.std.specs.Prelude.{ℕ, ◌≡◌, ◌+◌, ◌-◌, ◌^◌, ◌<◌, ◌≤◌, ◌⊎◌, List, ◌++◌, length, All, Some, slice_range, ℤ, neg_ℤ, ◌<ℤ◌}
 use Rattle.case_types.specs.Spared.{Spared}
 use Rattle.case_types.specs.declared.answers.Work.{Work}
 use Rattle.case_types.specs.declared.cases.Case.{Case}
