@@ -31,7 +31,7 @@ pub fn phase_box(case: &Case, phase: &Phase) -> BoxX
 }
 
 /// The fraction of the component `i` of `n`, rounded down and rounded up, in 2^-40, and 0 for one that isn't live.
-fn fraction_ends(n: u8, phase: &Phase, sum: u128, i: u8) -> (u64, u64)
+pub fn fraction_ends(n: u8, phase: &Phase, sum: u128, i: u8) -> (u64, u64)
     requires four { n ≤ 4 }
     requires sum { sum ≡ sum_below n (slice_index phase.now.parts) }
     requires some { 1 ≤ sum }

@@ -1,7 +1,20 @@
 //! Examples worked by hand.
 
+ghost use Rattle.std.specs.Prelude.{◌≤◌};
+
 use super::*;
-use case_types::Cell;
+use crate::compositions::fraction_ends;
+use case_types::{Cell, Phase, SLOTS};
+use std::test::Fail;
+
+/// 1 in 2^-40.
+const ONE: u64 = 1 << 40;
+
+/// A half in 2^-40.
+const HALF: u64 = 1 << 39;
+
+/// A quarter in 2^-40.
+const QUARTER: u64 = 1 << 38;
 
 /// The cell of these ends of the free fractions and of the packing.
 fn cell_of(lo: [u32; 3], hi: [u32; 3], ylo: u64, yhi: u64) -> Option<Cell> {
@@ -104,4 +117,74 @@ fn middles_of_cells(rt: HostRuntime) {
             "at {yhi}"
         );
     }
+}
+
+/// The ends of the fractions of the phase of `n` components, if one of them has a part and none has 2^104.
+fn ends_of_fractions(n: u8, parts: [u128; SLOTS]) -> Option<[(u64, u64); SLOTS]>
+    requires { n ≤ 4 }
+{
+    let limit = 1 << 104;
+    if parts[0] >= limit || parts[1] >= limit || parts[2] >= limit || parts[3] >= limit {
+        return None;
+    }
+    let phase = Phase {
+        parts,
+        packing: 1 << 39,
+    };
+    let sum = moles(n, &phase);
+    if sum == 0 {
+        return None;
+    }
+    Some([
+        fraction_ends(n, &phase, sum, 0),
+        fraction_ends(n, &phase, sum, 1),
+        fraction_ends(n, &phase, sum, 2),
+        fraction_ends(n, &phase, sum, 3),
+    ])
+}
+
+/// Each part over the sum of the live parts, rounded down and rounded up.
+#[test]
+fn fractions_of_phases(rt: HostRuntime) -> Result<(), Fail> {
+    for (n, parts, a, b) in [
+        (1, [5, 7, 0, 7], [ONE, 0, 0, 0], [ONE, 0, 0, 0]),
+        (2, [1, 1, 0, 0], [HALF, HALF, 0, 0], [HALF, HALF, 0, 0]),
+        // a third and two thirds
+        (
+            2,
+            [1, 2, 9, 9],
+            [366_503_875_925, 733_007_751_850, 0, 0],
+            [366_503_875_926, 733_007_751_851, 0, 0],
+        ),
+        // all but one part of 2^100 + 1
+        (2, [1 << 100, 1, 0, 0], [ONE - 1, 0, 0, 0], [ONE, 1, 0, 0]),
+        // no part of a live component
+        (
+            3,
+            [3, 0, 1, 4],
+            [3 * QUARTER, 0, QUARTER, 0],
+            [3 * QUARTER, 0, QUARTER, 0],
+        ),
+        // sevenths
+        (
+            3,
+            [1, 2, 4, 0],
+            [157_073_089_682, 314_146_179_364, 628_292_358_729, 0],
+            [157_073_089_683, 314_146_179_365, 628_292_358_730, 0],
+        ),
+        // sixths and a half
+        (
+            4,
+            [1, 1, 1, 3],
+            [183_251_937_962, 183_251_937_962, 183_251_937_962, HALF],
+            [183_251_937_963, 183_251_937_963, 183_251_937_963, HALF],
+        ),
+        (4, [1 << 103; SLOTS], [QUARTER; SLOTS], [QUARTER; SLOTS]),
+    ] {
+        assert!(rt; n <= 4);
+        let ends = ends_of_fractions(n, parts).ok_or("no box")?;
+        assert_eq!(rt; ends.map(|end: (u64, u64)| end.0), a, "lower ends at {n}");
+        assert_eq!(rt; ends.map(|end: (u64, u64)| end.1), b, "upper ends at {n}");
+    }
+    Ok(())
 }

@@ -1,4 +1,4 @@
-//! Boxes of phases and mixing sums of more components, worked by hand.
+//! Mixing sums of more components, worked by hand, and boxes of phases.
 
 ghost use Rattle.std.specs.Prelude.{◌≡◌, ◌≤◌};
 
@@ -32,53 +32,6 @@ pub fn box_of_phase(n: u8, parts: [u128; SLOTS]) -> Option<BoxX>
         return None;
     }
     Some(phase_box(&like_components(n), &phase))
-}
-
-/// Each part over the sum of the live parts, rounded down and rounded up.
-#[test]
-fn boxes_of_phases(rt: HostRuntime) -> Result<(), Fail> {
-    for (n, parts, a, b) in [
-        (1, [5, 7, 0, 7], [ONE, 0, 0, 0], [ONE, 0, 0, 0]),
-        (2, [1, 1, 0, 0], [HALF, HALF, 0, 0], [HALF, HALF, 0, 0]),
-        // a third and two thirds
-        (
-            2,
-            [1, 2, 9, 9],
-            [366_503_875_925, 733_007_751_850, 0, 0],
-            [366_503_875_926, 733_007_751_851, 0, 0],
-        ),
-        // all but one part of 2^100 + 1
-        (2, [1 << 100, 1, 0, 0], [ONE - 1, 0, 0, 0], [ONE, 1, 0, 0]),
-        // no part of a live component
-        (
-            3,
-            [3, 0, 1, 4],
-            [3 * QUARTER, 0, QUARTER, 0],
-            [3 * QUARTER, 0, QUARTER, 0],
-        ),
-        // sevenths
-        (
-            3,
-            [1, 2, 4, 0],
-            [157_073_089_682, 314_146_179_364, 628_292_358_729, 0],
-            [157_073_089_683, 314_146_179_365, 628_292_358_730, 0],
-        ),
-        // sixths and a half
-        (
-            4,
-            [1, 1, 1, 3],
-            [183_251_937_962, 183_251_937_962, 183_251_937_962, HALF],
-            [183_251_937_963, 183_251_937_963, 183_251_937_963, HALF],
-        ),
-        (4, [1 << 103; SLOTS], [QUARTER; SLOTS], [QUARTER; SLOTS]),
-    ] {
-        assert!(rt; n >= 1);
-        assert!(rt; n <= 4);
-        let x = box_of_phase(n, parts).ok_or("no box")?;
-        assert_eq!(rt; x.a, a, "lower ends at {n}");
-        assert_eq!(rt; x.b, b, "upper ends at {n}");
-    }
-    Ok(())
 }
 
 /// The least fraction times the logarithm of the greatest, over the components. The logarithm of `1/2^k` is `-k`.

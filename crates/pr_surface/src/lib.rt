@@ -7,6 +7,8 @@ mod peng_robinson;
 mod searches;
 mod searching;
 mod splits;
+#[cfg(test)]
+mod tests;
 
 pub use laws::{lows_certify, numbers_bound};
 pub use peng_robinson::PengRobinson;

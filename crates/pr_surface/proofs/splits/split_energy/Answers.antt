@@ -1,5 +1,4 @@
-use Rattle.std.proofs.Common.{◌≡◌, ◌∙◌, ℤ, to_z, of_z, sym, subst, arith}
-use Rattle.std.specs.Int.{w128}
+use Rattle.std.proofs.Common.{◌∙◌, ℤ, sym, subst, arith}
 use Rattle.log_laws.specs.LogSum.{AtMost}
 use Rattle.log_laws.proofs.Exports.{back}
 use Rattle.case_types.specs.Energy.Divisions.{bits, division_of, energy_of_division}

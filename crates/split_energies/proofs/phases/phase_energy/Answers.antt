@@ -1,6 +1,5 @@
-use Rattle.std.proofs.Common.{◌∙◌, subst, ℕ, arith}
+use Rattle.std.proofs.Common.{◌∙◌, arith}
 use Rattle.log_laws.proofs.Exports.{back}
-use Rattle.case_types.specs.Arithmetic.Bounds.{Box, box_of}
 use Rattle.split_energies.proofs.phases.phase_energy.Goals as goal
 
 pub returns-clause-value : goal.returns-clause-value
