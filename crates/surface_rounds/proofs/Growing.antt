@@ -1,5 +1,5 @@
 -- The rounds of a flash stay as the lists of work go on.
-use Rattle.std.proofs.Common.{◌≡◌, ℕ, ◌+◌, ◌-◌, ◌≤◌, ◌<◌, List, [], ◌∷◌, ◌++◌, length, drop, Some, refl, ap, ◌∙◌, arith, length-append, length-drop}
+use Rattle.std.proofs.Common.{◌≡◌, ℕ, ◌+◌, ◌-◌, ◌≤◌, ◌<◌, List, [], ◌∷◌, ◌++◌, length, drop, Some, refl, sym, ap, ◌∙◌, arith, length-append, length-drop}
 use Rattle.std.specs.Prelude.{slice_get, slice_range}
 use Rattle.std.proofs.lemmas.List.{take-append-le, drop-append-le, length-take}
 use Rattle.std.proofs.Math.Seq.{drop-append_seam, take-length, get_or-append_seam}
@@ -25,6 +25,16 @@ pub range-seam : {X : Type 0} (xs ys : List X) (j : ℕ) → j ≡ length xs + l
 range-seam xs ys j e =
     let n : j - length xs ≡ length ys = omega (arith, e) in
     rw (n, drop-append_seam xs ys) (take-length ys)
+
+-- from a place on, both parts
+pub range-grows : {X : Type 0} (xs ys : List X) (i : ℕ) → i ≤ length xs → slice_range (xs ++ ys) i (length (xs ++ ys)) ≡ slice_range xs i (length xs) ++ ys
+range-grows xs ys i h =
+    let part : length xs - i ≡ length (drop i xs) = rw length-drop refl in
+    let all : length (xs ++ ys) - i ≡ length (drop i xs ++ ys) = rw (length-append, length-append, length-drop) (omega (arith, h)) in
+    rw (drop-append-le i xs ys h, part, all, take-length (drop i xs), take-length (drop i xs ++ ys)) refl
+
+pub range-none : {X : Type 0} (xs : List X) → slice_range xs (length xs) (length xs) ≡ []
+range-none xs = let none : length xs - length xs ≡ 0 = omega arith in rw none refl
 
 pub length-range : {X : Type 0} (xs : List X) (i j : ℕ) → i ≤ j → j ≤ length xs → j ≡ i + length (slice_range xs i j)
 length-range xs i j h k = rw (length-take, length-drop) (omega (arith, h, k))

@@ -1,12 +1,14 @@
 -- Pivots in a row, as the list of pivots has them.
-use Rattle.std.proofs.Common.{◌≡◌, ℕ, ◌+◌, List, [], ◌∷◌, ◌++◌, length, refl, sym, ap, ◌∙◌, arith, length-append}
+use Rattle.std.proofs.Common.{◌≡◌, ℕ, ◌+◌, ◌≤ℤ◌, ◌<ℤ◌, ℤ, pos, List, [], ◌∷◌, ◌++◌, length, refl, sym, ap, ◌∙◌, arith, length-append}
 use Rattle.std.specs.Prelude.{slice_set}
-use Rattle.std.proofs.lemmas.List.{append-nil, append_assoc}
+use Rattle.std.proofs.lemmas.Int.{ints}
+use Rattle.std.proofs.lemmas.List.{append-nil, append_assoc, length-set}
 use Rattle.case_types.specs.Spared.{Spared}
 use Rattle.case_types.specs.declared.cases.Case.{Case}
 use Rattle.case_types.specs.declared.pivots.Pivot.{Pivot}
 use Rattle.case_types.specs.declared.rounds.Column.{Column}
-use Rattle.energy_surface.specs.Program.Pivots.{IsEntering, IsLeaving, ArePivots}
+use Rattle.energy_surface.specs.Program.Bases.{column_at}
+use Rattle.energy_surface.specs.Program.Pivots.{IsEntering, IsLeaving, IsOptimal, ArePivots, price_of}
 use Rattle.exact_lp.proofs.Exports.{pivots-push}
 use Rattle.surface_rounds.specs.Flashing.{Pivoted}
 
@@ -24,3 +26,24 @@ one_pivot_more c cols from mid v old now new units more h enters leaves pushed r
   room = omega (arith, room, h.room, e);
   pivots = pivots-push c cols from mid h.own v h.pivots enters leaves;
 }
+
+-- pivots after pivots
+pub pivots_append : (c : Case) (cols : List Column) (from mid to : List ℕ) (vs ws : List Pivot) → ArePivots c cols from vs mid → ArePivots c cols mid ws to → ArePivots c cols from (vs ++ ws) to
+unfolding ArePivots
+pivots_append c cols from mid to [] ws h k = rw h k
+pivots_append c cols from mid to (v ∷ vs) ws h k = (h.0, h.1, pivots_append c cols (slice_set from v.leave v.enter) mid to vs ws h.2 k)
+
+-- a basis has four places all the way
+pub places_stay : (c : Case) (cols : List Column) (from to : List ℕ) (vs : List Pivot) → ArePivots c cols from vs to → length from ≡ 4 → length to ≡ 4
+unfolding ArePivots
+places_stay c cols from to [] h four = rw (← h) four
+places_stay c cols from to (v ∷ vs) h four = places_stay c cols (slice_set from v.leave v.enter) to vs h.2 (length-set from v.leave v.enter ∙ four)
+
+-- at an optimum no pivot is made
+pub none_at_optimum : (c : Case) (cols : List Column) (from to : List ℕ) (vs : List Pivot) → IsOptimal c.n cols from → ArePivots c cols from vs to → (vs ≡ []) × (from ≡ to)
+unfolding ArePivots
+none_at_optimum c cols from to [] best h = (refl, h)
+none_at_optimum c cols from to (v ∷ vs) best h = absurd (not_both (price_of c.n cols from (column_at cols v.enter)) (best v.enter h.0.inside) h.0.cheaper)
+  where
+    not_both : (z : ℤ) → pos 0 ≤ℤ z → z <ℤ pos 0 → ⊥
+    not_both z h k = omega (arith, ints, h, k)
