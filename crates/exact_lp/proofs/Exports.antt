@@ -10,4 +10,5 @@ pub use Rattle.exact_lp.proofs.PivotSequences.{pivots-push, pivots_keep, column_
 pub use Rattle.exact_lp.proofs.PlanesKept.{plane_kept}
 pub use Rattle.exact_lp.proofs.PlanesUnderCosts.{plane_under_cost}
 pub use Rattle.exact_lp.proofs.SplitOfBasis.{basis_split_adds_up, basis_split_divides}
+pub use Rattle.exact_lp.proofs.StartBasis.{start_is_basis, start_is_optimal}
 pub use Rattle.exact_lp.proofs.WeighedAmounts.{plane_at_row}

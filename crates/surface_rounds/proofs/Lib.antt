@@ -1,3 +1,6 @@
 pub mod Growing
+pub mod ScanSteps
+pub mod PureColumns
 pub mod Pivoting
 pub mod FlashSoFar
+pub mod FirstPlane

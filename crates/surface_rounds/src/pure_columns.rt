@@ -25,7 +25,8 @@ pub fn keep_pure<S: Surface>(surface: &S, columns: &mut Columns)
 
 /// The column of the component `k` alone, at the packing fraction of the scan.
 fn pure_column<S: Surface>(surface: &S, k: u8) -> Column
-    requires { k < (S.bounds surface.now).count }
+    requires live { k < (S.bounds surface.now).count }
+    requires four { k < 4 }
     ensures column { IsColumn (S.bounds surface.now) result }
     ensures pure { IsPureColumn (S.bounds surface.now) k result }
 {

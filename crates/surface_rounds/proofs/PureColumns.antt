@@ -1,0 +1,97 @@
+-- The grid point of a component alone.
+use Rattle.std.proofs.Common.{◌≡◌, ℕ, zero, suc, ◌+◌, ◌^◌, ◌<◌, ◌≤◌, false, List, [], ◌∷◌, ◌++◌, length, inl, inr, slice_index, refl, ap, sym, arith, length-append}
+use Rattle.std.proofs.lemmas.List.Elements.{All-append, All-cons, All-nil}
+use Rattle.case_types.specs.declared.rounds.Column.{Column}
+use Rattle.energy_surface.specs.Columns.{IsColumn}
+use Rattle.energy_surface.specs.Lawful.{IsPureColumn}
+use Rattle.energy_surface.specs.Program.Bases.{column_at}
+use Rattle.exact_lp.proofs.Exports.{column_at-append}
+use Rattle.surface_rounds.specs.Flashing.{ArePure}
+use Rattle.std.specs.Prelude.{◌≢◌, nat_eq}
+use Rattle.std.proofs.lemmas.Bool.{cases_lt}
+use Rattle.std.proofs.lemmas.Bool.Decides.{nat_tests}
+use Rattle.log_laws.specs.Sums.{sum_below}
+use Rattle.case_types.specs.Arithmetic.Bounds.{Box}
+use Rattle.case_types.specs.Grid.Columns.{IsGridPoint}
+use Rattle.energy_surface.specs.Lawful.{pure_composition}
+use Rattle.energy_surface.specs.Scans.{scan_packing}
+use Rattle.energy_surface.specs.Surfaces.{Surface}
+use Rattle.surface_rounds.specs.declared.scans.Scanned.{Scanned}
+use Rattle.surface_rounds.specs.Scanned.{IsScannedBelow}
+
+-- ---- a sum of one number
+nothing : (n : ℕ) (f : ℕ → ℕ) → ((i : ℕ) → i < n → f i ≡ 0) → sum_below n f ≡ 0
+nothing zero f h = refl
+nothing (suc n) f h = rw (nothing n f (λ i l. h i (omega (arith, l))), h n (omega arith)) refl
+
+apart : (i k : ℕ) → i < k → i ≢ k
+apart i k h e = absurd (omega (arith, h, e))
+
+single : (n k x : ℕ) (f : ℕ → ℕ) → k < n → f k ≡ x → ((i : ℕ) → i ≢ k → f i ≡ 0) → sum_below n f ≡ x
+single zero k x f h e z = absurd (omega (arith, h))
+single (suc n) k x f h e z =
+    elim (cases_lt k n) [
+      | inl less ↦ rw (single n k x f less e z, z n (λ d. apart k n less (sym d))) (omega arith)
+      | inr more ↦
+        let d : n ≡ k = omega (arith, h, more) in
+        rw (nothing n f (λ i l. z i (apart i k (omega (arith, l, d)))), d, e) (omega arith)
+    ]
+
+-- ---- the composition
+unequal : (k i : ℕ) → i ≢ k → nat_eq k i ≡ false
+unequal k i h = grind (arith, nat_tests, h)
+
+alone_there : (k : ℕ) → k < 4 → slice_index (pure_composition k) k ≡ 2 ^ 20
+alone_there zero h = refl
+alone_there (suc zero) h = refl
+alone_there (suc (suc zero)) h = refl
+alone_there (suc (suc (suc zero))) h = refl
+alone_there (suc (suc (suc (suc k)))) h = absurd (omega (arith, h))
+
+nothing_else : (k i : ℕ) → i ≢ k → slice_index (pure_composition k) i ≡ 0
+nothing_else k zero h = rw (unequal k 0 h) refl
+nothing_else k (suc zero) h = rw (unequal k 1 h) refl
+nothing_else k (suc (suc zero)) h = rw (unequal k 2 h) refl
+nothing_else k (suc (suc (suc zero))) h = rw (unequal k 3 h) refl
+nothing_else k (suc (suc (suc (suc i)))) h = refl
+
+pub pure_whole : (n k : ℕ) → k < n → k < 4 → sum_below n (slice_index (pure_composition k)) ≡ 2 ^ 20
+pure_whole n k h four = single n k (2 ^ 20) (slice_index (pure_composition k)) h (alone_there k four) (nothing_else k)
+
+-- ---- the packing of a scan
+not_first : (k : ℕ) → nat_eq (suc k) 0 ≡ false
+not_first k = grind (arith, nat_tests)
+
+scan_some : (k : ℕ) → 1 ≤ scan_packing k
+scan_some zero = omega arith
+scan_some (suc k) = rw (not_first k) (omega arith)
+
+scan_inside : (k : ℕ) → k < 64 → scan_packing k < 2 ^ 40
+scan_inside zero h = omega arith
+scan_inside (suc k) h = rw (not_first k) (omega (arith, h))
+
+pub pure_point : (s : Surface) (k : ℕ) (comp : List ℕ) (x : Box) (found : Scanned) → k < s.count → k < 4 → comp ≡ pure_composition k → IsScannedBelow s x 64 found →
+    IsGridPoint s.count (record { composition = comp; packing = found.packing })
+pure_point s k comp x found live four e so = record {
+  whole = rw e (pure_whole s.count k live four);
+  rest = λ i h. rw e (nothing_else k i (λ d. absurd (omega (arith, live, h, d))));
+  not_empty = rw so.at (scan_some so.place);
+  not_full = rw so.at (scan_inside so.place so.inside);
+}
+
+-- ---- one pure column more
+last_column : (cols : List Column) (col : Column) → column_at (cols ++ col ∷ []) (length cols) ≡ col
+last_column [] col = refl
+last_column (d ∷ cols) col = last_column cols col
+
+pub pure_more : (s : Surface) (k : ℕ) (cols : List Column) (col : Column) → ArePure s k cols → IsColumn s col → IsPureColumn s k col → ArePure s (k + 1) (cols ++ col ∷ [])
+pure_more s k cols col so good alone = record {
+  columns = All-append (λ (col : Column). IsColumn s col) cols (col ∷ []) so.columns (All-cons (λ (col : Column). IsColumn s col) col [] good (All-nil (λ (col : Column). IsColumn s col)));
+  counted = rw length-append (ap (λ (n : ℕ). n + 1) so.counted);
+  pure = λ j h. elim (cases_lt j k) [
+    | inl less ↦ rw (column_at-append cols col j (rw so.counted less)) (so.pure j less)
+    | inr more ↦
+      let e : j ≡ k = omega (arith, h, more) in
+      rw (e, ← so.counted, last_column cols col) (rw so.counted alone)
+  ];
+}
