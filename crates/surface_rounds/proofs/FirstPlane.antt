@@ -23,12 +23,12 @@ pub open_where_one_enters : (s : Surface) (c : Case) (tol : ℕ) (cols : List Co
     IsEntering c.n cols to enter → plain_low s (plane_of c.n cols start_places) (root_region s.count) <ℤ neg_ℤ (delta_of tol)
 open_where_one_enters s c tol cols at to vs enter good begun pivots wanted =
     elim begun [
-      | inl pure ↦
-        let best = only_pure c cols at good pure.0 pure.1 in
+      | inl alone ↦
+        let best = only_pure c cols at good alone.0 alone.1 in
         let same = (none_at_optimum c cols at to vs best pivots).1 in
         let up : pos 0 ≤ℤ price_of c.n cols to (column_at cols enter) = subst (λ p. pos 0 ≤ℤ price_of c.n cols p (column_at cols enter)) same (best enter wanted.inside) in
         absurd (not_both (price_of c.n cols to (column_at cols enter)) up wanted.cheaper)
-      | inr open ↦ open
+      | inr low ↦ low
     ]
   where
     not_both : (z : ℤ) → pos 0 ≤ℤ z → z <ℤ pos 0 → ⊥
@@ -50,9 +50,9 @@ open_on s c tol cols new kept lam at to vs good begun pivots tangent low more =
     known : plain_low s (plane_of c.n cols start_places) (root_region s.count) <ℤ neg_ℤ (delta_of tol)
     known =
         elim begun [
-          | inl pure ↦
-            let same = (none_at_optimum c cols at to vs (only_pure c cols at good pure.0 pure.1) pivots).1 in
-            let first : lam ≡ plane_of c.n cols start_places = tangent ∙ ap (plane_of c.n cols) (sym same ∙ pure.1) in
+          | inl alone ↦
+            let same = (none_at_optimum c cols at to vs (only_pure c cols at good alone.0 alone.1) pivots).1 in
+            let first : lam ≡ plane_of c.n cols start_places = tangent ∙ ap (plane_of c.n cols) (sym same ∙ alone.1) in
             rw (← first) low
-          | inr open ↦ open
+          | inr there ↦ there
         ]

@@ -227,7 +227,7 @@ module _ (s : Surface) (c : Case) (tol spent : ℕ) (old new : Work) (at : List 
           places = f.places;
           basis = rw column_more (basis_kept c old.columns.items kept at f.basis);
           start = after (round_noted plane u old new.letters (round_end found)) at;
-          refuted = rw h.went.noted refuted_too;
+          refuted = subst (λ rs. AreRefuted s c tol new (beginning c.n 0) rs (after (round_noted plane u old new.letters (round_end found)) at)) (sym h.went.noted) refuted_too;
           all_columns = sym n;
           all_letters = refl;
           some_pivots = rw pivots_same (omega arith);

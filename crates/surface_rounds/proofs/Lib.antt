@@ -4,3 +4,5 @@ pub mod PureColumns
 pub mod Pivoting
 pub mod FlashSoFar
 pub mod FirstPlane
+pub mod ChosenSplits
+pub mod OnTheWay

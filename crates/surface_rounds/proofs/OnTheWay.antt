@@ -1,0 +1,159 @@
+-- A round from its pivots to its end.
+use Rattle.std.proofs.Common.{◌≡◌, ℕ, ◌+◌, ◌-◌, ◌^◌, ◌<◌, ◌≤◌, length, Option, Some, None, List, [], ◌∷◌, ◌++◌, ℤ, pos, neg_ℤ, ◌+ℤ◌, ◌≤ℤ◌, ◌<ℤ◌, unsigned_abs, refl, sym, ap, ◌∙◌, subst, arith, length-append}
+use Rattle.std.specs.List.{All}
+use Rattle.std.proofs.lemmas.Int.{ints}
+use Rattle.std.proofs.lemmas.List.Elements.{All-weaker}
+use Rattle.case_types.specs.Spared.{Spared}
+use Rattle.case_types.specs.declared.answers.Work.{Work}
+use Rattle.case_types.specs.declared.cases.Case.{Case}
+use Rattle.case_types.specs.declared.pivots.Pivot.{Pivot}
+use Rattle.case_types.specs.declared.planes.Plane.{Plane}
+use Rattle.case_types.specs.declared.rounds.Column.{Column}
+use Rattle.case_types.specs.declared.units.Units.{Units}
+use Rattle.case_types.specs.Arithmetic.Bounds.{box_of_parts}
+use Rattle.case_types.specs.Grid.Cells.{Tree, visits, root_region}
+use Rattle.energy_surface.specs.declared.found.Found.{Found}
+use Rattle.energy_surface.specs.declared.found.Found.TheVariants.{AllClear, Refuted, Spent, Grain}
+use Rattle.energy_surface.specs.Columns.{IsColumn}
+use Rattle.energy_surface.specs.Outcomes.{delta_of}
+use Rattle.energy_surface.specs.Program.Bases.{column_at, start_places, AreColumns, IsBasis}
+use Rattle.energy_surface.specs.Program.Pivots.{IsEntering, IsOptimal}
+use Rattle.energy_surface.specs.Program.Planes.{plane_of}
+use Rattle.energy_surface.specs.Rounds.{slack_of, basis_up, IsNearScan}
+use Rattle.energy_surface.specs.Scans.{scan_packing}
+use Rattle.energy_surface.specs.Searches.{HasLeastLow, low_of}
+use Rattle.energy_surface.specs.Surfaces.{Surface, under, plain_low, IsOver}
+use Rattle.energy_surface.proofs.Exports.{tree_over, leaf_over}
+use Rattle.exact_lp.proofs.Exports.{columns_kept}
+use Rattle.box_search.specs.Found.{IsFound}
+use Rattle.surface_rounds.specs.declared.choices.Chosen.{Chosen}
+use Rattle.surface_rounds.specs.declared.scans.Scanned.{Scanned}
+use Rattle.surface_rounds.specs.declared.stages.Stage.{Stage}
+use Rattle.surface_rounds.specs.Choices.{chosen, columns_up}
+use Rattle.surface_rounds.specs.Flashing.{AreKept, IsFlashing, IsBegun, IsBetweenRounds, IsAfterRounds, IsAfterRound, Pivoted}
+use Rattle.surface_rounds.specs.Noted.{MakesRound}
+use Rattle.surface_rounds.specs.Room.{HasRoom, IsCounted}
+use Rattle.surface_rounds.specs.Scanned.{IsScanned}
+use Rattle.surface_rounds.proofs.ChosenSplits.{columns_up_is, chosen_near}
+use Rattle.surface_rounds.proofs.FirstPlane.{open_where_one_enters, open_on}
+use Rattle.surface_rounds.proofs.FlashSoFar.{with_pivots, flashing_pivots, Searched, columns_stay, searched_work, column_more, flashing_on, CutsShort, cut_work}
+
+-- ---- columns
+pub are_columns : (s : Surface) (c : Case) (cols : List Column) → s.count ≡ c.n → length cols < 2 ^ 32 → AreKept s c cols → AreColumns c.n cols
+are_columns s c cols count few kept = columns_kept s c.n cols count c.few few kept.enough kept.columns (λ k h. (kept.pure k h).alone)
+
+pub ups_small : (s : Surface) (cols : List Column) → All (λ (col : Column). IsColumn s col) cols → All (λ (col : Column). unsigned_abs col.up < 2 ^ 49) cols
+ups_small s cols h = All-weaker (λ (col : Column). IsColumn s col) (λ (col : Column). unsigned_abs col.up < 2 ^ 49) (λ col k. k.small) cols h
+
+pub few_columns : (units : Units) (w : Work) → IsCounted units.spent w → length w.columns.items < 2 ^ 32
+few_columns units w counted = omega (arith, counted.columns, units.within, units.in_range)
+
+-- the low that a search answers is one of a tree of the whole domain
+over_whole : (s : Surface) (lam : List ℤ) (found : Option ℤ) (low : ℤ) (tree : Tree) → found ≡ Some low →
+    HasLeastLow s lam found (visits tree (root_region s.count)) → IsOver s lam low (root_region s.count)
+over_whole s lam None low tree e is = absurd (cc e)
+over_whole s lam (Some x) low tree e is =
+    let same : x ≡ low = cc in
+    subst (λ z. IsOver s lam z (root_region s.count)) same (record { tree = tree; over = tree_over s lam x tree (root_region s.count) is.over })
+
+-- ---- what is in hand after the pivots of a round
+pub record OnTheWay (s : Surface) (c : Case) (tol : ℕ) (alone : Scanned) (units mid : Units) (w : Work) (pivots : Spared Pivot) (at to : List ℕ) (x : Chosen) : Type 0 where
+  pub count : s.count ≡ c.n
+  pub fine : 128 ≤ tol
+  pub scanned : IsScanned s (box_of_parts c.n c.z) alone
+  pub between : IsBetweenRounds s c tol units w at
+  pub pivoted : Pivoted c w.columns.items at to w.pivots pivots (mid.spent - units.spent)
+  pub basis : IsBasis c w.columns.items to
+  pub spent : units.spent ≤ mid.spent
+  pub budget : mid.budget ≡ units.budget
+  pub choice : x ≡ chosen alone.up (columns_up c w.columns.items to) (slack_of tol)
+
+module _ (s : Surface) (c : Case) (tol : ℕ) (alone : Scanned) (units mid : Units) (w : Work) (pivots : Spared Pivot) (at to : List ℕ) (x : Chosen) (h : OnTheWay s c tol alone units mid w pivots at to x) where
+  good : AreColumns c.n w.columns.items
+  good = are_columns s c w.columns.items h.count (few_columns units w h.between.counted) h.between.flashing.kept
+
+  flashing : IsFlashing s c tol mid.spent (with_pivots w pivots) to
+  flashing = flashing_pivots s c tol units.spent (mid.spent - units.spent) mid.spent w pivots at to h.between.flashing h.pivoted h.basis (omega (arith, h.spent))
+
+  slack_there : pos 0 ≤ℤ slack_of tol
+  slack_there = omega (arith, ints)
+
+  near : (x.u ≤ℤ (basis_up s c w.columns.items to +ℤ slack_of tol)) × (x.u ≤ℤ (alone.up +ℤ slack_of tol))
+  near =
+      let both = chosen_near alone.up (columns_up c w.columns.items to) (slack_of tol) slack_there in
+      rw h.choice (subst (λ z. (chosen alone.up (columns_up c w.columns.items to) (slack_of tol)).u ≤ℤ (z +ℤ slack_of tol)) (columns_up_is s c w.columns.items to h.count h.basis h.between.flashing.kept.columns) both.0, both.1)
+
+  near_scan : IsNearScan s c tol x.u
+  near_scan k l = below x.u alone.up (s.up (box_of_parts s.count c.z) (scan_packing k)) (slack_of tol) near.1 (rw h.count (h.scanned.least k l))
+    where
+      below : (u a b z : ℤ) → u ≤ℤ (a +ℤ z) → a ≤ℤ b → u ≤ℤ (b +ℤ z)
+      below u a b z h k = omega (arith, ints, h, k)
+
+  pub mid_room : HasRoom (mid.budget - mid.spent) (with_pivots w pivots)
+  mid_room =
+      let r = h.between.room in
+      record {
+        columns = omega (arith, r.columns, h.spent, h.budget);
+        pivots = omega (arith, r.pivots, h.spent, h.budget, h.pivoted.room);
+        letters = omega (arith, r.letters, h.spent, h.budget);
+        rounds = omega (arith, r.rounds, h.spent, h.budget);
+      }
+
+  pub mid_counted : IsCounted mid.spent (with_pivots w pivots)
+  mid_counted =
+      let k = h.between.counted in
+      let n : length pivots.items ≡ length w.pivots.items + length h.pivoted.own = rw h.pivoted.pushed (length-append w.pivots.items h.pivoted.own) in
+      record {
+        columns = omega (arith, k.columns, h.spent);
+        pivots = omega (arith, n, k.pivots, h.pivoted.counted, h.spent);
+        letters = omega (arith, k.letters, h.spent);
+      }
+
+  -- ---- no unit is left for a pivot
+  pub open_at_first : (enter : ℕ) → IsEntering c.n w.columns.items to enter → plain_low s (plane_of c.n w.columns.items start_places) (root_region s.count) <ℤ neg_ℤ (delta_of tol)
+  open_at_first enter wanted = open_where_one_enters s c tol w.columns.items at to h.pivoted.own enter good h.between.begun h.pivoted.pivots wanted
+
+  pub after_cut : (new : Work) (plane : Plane) (low : ℤ) (enter : ℕ) → IsEntering c.n w.columns.items to enter → plane.lam ≡ plane_of c.n w.columns.items start_places →
+      CutsShort plane x.u (with_pivots w pivots) new → low ≡ plain_low s plane.lam (root_region s.count) → mid.spent ≡ mid.budget →
+      IsAfterRounds s c tol mid new to alone.up (record { chosen = x; plane = plane; found = Spent low })
+  after_cut new plane low enter wanted tangent cut is full = record {
+    kept = rw cut.columns h.between.flashing.kept;
+    basis = rw cut.columns h.basis;
+    few = rw cut.columns (few_columns units w h.between.counted);
+    choice = rw cut.columns h.choice;
+    work = cut_work s c tol mid.spent (with_pivots w pivots) new to plane x.u low enter flashing wanted tangent near_scan cut is;
+    found = (rw (is, tangent) (open_at_first enter wanted), full);
+    over = λ z e. leaf_over s plane.lam z (root_region s.count) (let same : low ≡ z = cc in rw (← same, is) (omega (arith, ints)));
+  }
+
+  -- ---- the plane is searched
+  module _ (now : Units) (new : Work) (plane : Plane) (found : Found) (optimal : IsOptimal c.n w.columns.items to) (tangent : plane.lam ≡ plane_of c.n w.columns.items to)
+      (went : MakesRound (under s plane.lam (delta_of tol)) plane x.u (with_pivots w pivots) new (now.spent - mid.spent) found) (more : mid.spent ≤ now.spent) (is : IsFound (under s plane.lam (delta_of tol)) now found) where
+    searched : Searched s c tol mid.spent (with_pivots w pivots) new to plane x.u (now.spent - mid.spent) found
+    searched = record { count = h.count; fine = h.fine; flashing = flashing; optimal = optimal; tangent = tangent; near_scan = near_scan; near_basis = near.0; went = went }
+
+    units_now : now.spent ≡ mid.spent + (now.spent - mid.spent)
+    units_now = omega (arith, more)
+
+    after_end : (low : ℤ) → low_of found ≡ Some low → IsAfterRounds s c tol now new to alone.up (record { chosen = x; plane = plane; found = found })
+    after_end low ends =
+        let stay = columns_stay s c tol mid.spent (with_pivots w pivots) new to plane x.u (now.spent - mid.spent) found searched low ends in
+        record {
+          kept = rw stay h.between.flashing.kept;
+          basis = rw stay h.basis;
+          few = rw stay (few_columns units w h.between.counted);
+          choice = rw stay h.choice;
+          work = searched_work s c tol mid.spent (with_pivots w pivots) new to plane x.u (now.spent - mid.spent) found searched low ends now.spent units_now;
+          found = is;
+          over = λ z e. over_whole s plane.lam (low_of found) z went.searched.searched.tree e went.searched.searched.low;
+        }
+
+    after_refuted : (kept : Column) → found ≡ Refuted kept → plain_low s plane.lam (root_region s.count) <ℤ neg_ℤ (delta_of tol) →
+        HasRoom (now.budget - now.spent) new → IsCounted now.spent new → IsBetweenRounds s c tol now new to
+    after_refuted kept e low room counted = record {
+      flashing = flashing_on s c tol mid.spent (with_pivots w pivots) new to plane x.u (now.spent - mid.spent) found searched kept e now.spent units_now;
+      begun = open_on s c tol w.columns.items new.columns.items kept plane.lam at to h.pivoted.own good h.between.begun h.pivoted.pivots tangent low
+          (column_more s c tol mid.spent (with_pivots w pivots) new to plane x.u (now.spent - mid.spent) found searched kept e);
+      room = room;
+      counted = counted;
+    }
