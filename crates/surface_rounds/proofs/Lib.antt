@@ -1,3 +1,4 @@
 pub mod Growing
 pub mod ScanSteps
 pub mod PureColumns
+pub mod ChosenSplits
