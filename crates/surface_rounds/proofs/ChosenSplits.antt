@@ -104,3 +104,133 @@ module _ (s : Surface) (c : Case) (cols : List Column) (at : List ℕ) (count : 
 pub columns_up_is : (s : Surface) (c : Case) (cols : List Column) (at : List ℕ) → s.count ≡ c.n → IsBasis c cols at → All (λ (col : Column). IsColumn s col) cols →
     columns_up c cols at ≡ basis_up s c cols at
 columns_up_is s c cols at count basis good = phases_are_shares s c cols at count basis good c.n (omega arith)
+
+-- ---- the feed as one phase
+live_test : (i n : ℕ) → i < n → nat_lt i n ≡ true
+live_test i n h = grind (arith, nat_tests, h)
+
+feed_part_of : (c : Case) (y i : ℕ) → i < c.n → slice_index (feed_phase c y).parts i ≡ slice_index c.z i
+feed_part_of c y zero h = rw (live_test 0 c.n h) refl
+feed_part_of c y (suc zero) h = rw (live_test 1 c.n h) refl
+feed_part_of c y (suc (suc zero)) h = rw (live_test 2 c.n h) refl
+feed_part_of c y (suc (suc (suc zero))) h = rw (live_test 3 c.n h) refl
+feed_part_of c y (suc (suc (suc (suc i)))) h = absurd (omega (arith, h, c.few))
+
+sum_below-same : (n : ℕ) (f g : ℕ → ℕ) → ((k : ℕ) → k < n → f k ≡ g k) → sum_below n f ≡ sum_below n g
+sum_below-same zero f g h = refl
+sum_below-same (suc n) f g h = rw (sum_below-same n f g (λ k l. h k (omega (arith, l))), h n (omega arith)) refl
+
+pub feed_parts_sum : (c : Case) (y : ℕ) → sum_below c.n (slice_index (feed_phase c y).parts) ≡ c.total
+feed_parts_sum c y = sum_below-same c.n (slice_index (feed_phase c y).parts) (slice_index c.z) (feed_part_of c y) ∙ c.added
+
+-- what is masked twice
+masked : (b : Bool) (f : ℕ → ℕ) (x : ℕ) → cond b (f (if b then x else 0)) 0 ≡ cond b (f x) 0
+masked true f x = refl
+masked false f x = refl
+
+ends_of_feed : (c : Case) (y : ℕ) (f : ℕ → ℕ) →
+    list_below 4 (λ i. cond (nat_lt i c.n) (f (slice_index (feed_phase c y).parts i)) 0) ≡ list_below 4 (λ i. cond (nat_lt i c.n) (f (slice_index c.z i)) 0)
+unfolding list_below
+ends_of_feed c y f =
+    rw (
+      masked (nat_lt 0 c.n) f (slice_index c.z 0),
+      masked (nat_lt 1 c.n) f (slice_index c.z 1),
+      masked (nat_lt 2 c.n) f (slice_index c.z 2),
+      masked (nat_lt 3 c.n) f (slice_index c.z 3),
+    ) refl
+
+pub feed_box_is : (c : Case) (y : ℕ) → box_of_parts c.n (feed_phase c y).parts ≡ box_of_parts c.n c.z
+feed_box_is c y =
+    let e = feed_parts_sum c y ∙ sym c.added in
+    let m = sum_below c.n (slice_index c.z) in
+    box_same _ _ (box_of_parts c.n c.z)
+    (rw e (ends_of_feed c y (λ p. share_down one p m))) (rw e (ends_of_feed c y (λ p. share_up one p m)))
+
+phases_alone : (n : ℕ) (up : Box → ℕ → ℤ) (sum : ℕ) (f : Phase) → phases_up n up sum (f ∷ []) ≡ share_of_energy (sum_below n (slice_index f.parts)) sum (phase_up n up f)
+unfolding phases_up
+phases_alone n up sum f = plus_none (share_of_energy (sum_below n (slice_index f.parts)) sum (phase_up n up f))
+  where
+    plus_none : (z : ℤ) → z +ℤ pos 0 ≡ z
+    plus_none z = omega (arith, ints)
+
+feed_up : (s : Surface) (c : Case) (y : ℕ) → s.count ≡ c.n → phase_up s.count s.up (feed_phase c y) ≡ s.up (box_of_parts c.n c.z) y
+feed_up s c y count = ap (λ n. s.up (box_of_parts n (feed_phase c y).parts) y) count ∙ ap (λ x. s.up x y) (feed_box_is c y)
+
+pub one_phase_energy : (s : Surface) (c : Case) (y : ℕ) (up : ℤ) (split : Split) → s.count ≡ c.n → IsOnePhase c y split →
+    up ≡ s.up (box_of_parts c.n c.z) y → up ≡ split_up s.count s.up split
+one_phase_energy s c y up split count is e =
+    let all = ap (λ n. sum_below n (slice_index (feed_phase c y).parts)) count ∙ feed_parts_sum c y in
+    rw (is.sum, is.phases)
+    (e ∙ sym (feed_up s c y count) ∙ sym (whole_share c.total (phase_up s.count s.up (feed_phase c y)) (total_positive c))
+    ∙ share_same _ _ _ _ _ _ (sym all) refl refl ∙ sym (phases_alone s.count s.up c.total (feed_phase c y)))
+
+pub one_phase_divides : (c : Case) (y : ℕ) (split : Split) → IsOnePhase c y split → 1 ≤ y → y < 2 ^ 40 → Divides c (division_of split)
+one_phase_divides c y split is some inside = record {
+  positive = rw is.sum (total_positive c);
+  phases =
+      rw is.phases (All-cons (IsState c.n) (state_of (feed_phase c y)) []
+      (state_of-is_state c.n (feed_phase c y) (phase_has_packing y some inside) (rw (feed_parts_sum c y) (total_positive c))) (All-nil (IsState c.n)));
+  adds_up = λ i h. rw (is.sum, is.phases) (turned (slice_index (feed_phase c y).parts i) (slice_index c.z i) c.total (feed_part_of c y i h));
+}
+  where
+    turned : (a z t : ℕ) → a ≡ z → t * (a + 0) ≡ z * t
+    turned a z t e = rw e (omega arith)
+
+-- ---- the split that is chosen
+pub split_by_divides : (c : Case) (cols : List Column) (at : List ℕ) (y : ℕ) (choice : Choice) (split : Split) → AreColumns c.n cols → IsBasis c cols at →
+    1 ≤ y → y < 2 ^ 40 → IsSplitBy c cols at y choice split → Divides c (division_of split)
+split_by_divides c cols at y OnePhase split good basis some inside is = one_phase_divides c y split is some inside
+split_by_divides c cols at y OfBasis split good basis some inside is = basis_split_divides c cols at split good basis is
+
+pub split_by_energy : (s : Surface) (c : Case) (cols : List Column) (at : List ℕ) (y : ℕ) (alone slack : ℤ) (split : Split) → s.count ≡ c.n → IsBasis c cols at →
+    All (λ (col : Column). IsColumn s col) cols → alone ≡ s.up (box_of_parts c.n c.z) y →
+    IsSplitBy c cols at y (chosen alone (columns_up c cols at) slack).choice split → (chosen alone (columns_up c cols at) slack).u ≡ split_up s.count s.up split
+split_by_energy s c cols at y alone slack split count basis good e = by (int_le alone (columns_up c cols at +ℤ slack))
+  where
+    either : Bool → Chosen
+    either b = if b then (record { choice = OnePhase; u = alone }) else (record { choice = OfBasis; u = columns_up c cols at })
+
+    by : (b : Bool) → IsSplitBy c cols at y (either b).choice split → (either b).u ≡ split_up s.count s.up split
+    by true is = one_phase_energy s c y alone split count is e
+    by false is = columns_up_is s c cols at count basis good ∙ sym (ap (λ q. phases_up s.count s.up q split.phases.items) is.sum ∙ ap (phases_up s.count s.up (c.total * size c.n (system cols at))) is.phases)
+
+pub split_by_small : (s : Surface) (c : Case) (cols : List Column) (at : List ℕ) (y : ℕ) (alone : ℤ) (choice : Choice) (split : Split) → s.count ≡ c.n → IsBasis c cols at →
+    All (λ (col : Column). IsColumn s col) cols → alone ≡ s.up (box_of_parts c.n c.z) y → unsigned_abs alone < 2 ^ 49 → IsSplitBy c cols at y choice split →
+    All (λ (f : Phase). unsigned_abs (phase_up s.count s.up f) < 2 ^ 49) split.phases.items
+split_by_small s c cols at y alone OnePhase split count basis good e small is =
+    rw is.phases (All-cons (λ (f : Phase). unsigned_abs (phase_up s.count s.up f) < 2 ^ 49) (feed_phase c y) []
+    (rw (feed_up s c y count, ← e) small) (All-nil (λ (f : Phase). unsigned_abs (phase_up s.count s.up f) < 2 ^ 49)))
+split_by_small s c cols at y alone OfBasis split count basis good e small is = rw is.phases (phases_small s c cols at count basis good)
+
+pub chosen_near : (alone basis slack : ℤ) → pos 0 ≤ℤ slack →
+    ((chosen alone basis slack).u ≤ℤ (basis +ℤ slack)) × ((chosen alone basis slack).u ≤ℤ (alone +ℤ slack))
+chosen_near alone basis slack some = by (int_le alone (basis +ℤ slack)) refl
+  where
+    either : Bool → Chosen
+    either b = if b then (record { choice = OnePhase; u = alone }) else (record { choice = OfBasis; u = basis })
+
+    raised : (z : ℤ) → z ≤ℤ (z +ℤ slack)
+    raised z = omega (arith, ints, some)
+
+    no_more : int_le alone (basis +ℤ slack) ≡ true → alone ≤ℤ (basis +ℤ slack)
+    no_more h = grind (arith, h)
+
+    more : int_le alone (basis +ℤ slack) ≡ false → basis ≤ℤ (alone +ℤ slack)
+    more h = omega (arith, ints, some, h)
+
+    by : (b : Bool) → int_le alone (basis +ℤ slack) ≡ b → ((either b).u ≤ℤ (basis +ℤ slack)) × ((either b).u ≤ℤ (alone +ℤ slack))
+    by true h = (no_more h, raised alone)
+    by false h = (raised basis, more h)
+
+-- ---- by the test
+pub chosen_alone : (alone basis slack : ℤ) → alone ≤ℤ (basis +ℤ slack) → ◌≡◌ {A = Chosen} (record { choice = OnePhase; u = alone }) (chosen alone basis slack)
+chosen_alone alone basis slack h = rw (test h) refl
+  where
+    test : alone ≤ℤ (basis +ℤ slack) → int_le alone (basis +ℤ slack) ≡ true
+    test h = grind (arith, h)
+
+pub chosen_basis : (alone basis slack : ℤ) → (basis +ℤ slack) <ℤ alone → ◌≡◌ {A = Chosen} (record { choice = OfBasis; u = basis }) (chosen alone basis slack)
+chosen_basis alone basis slack h = rw (test h) refl
+  where
+    test : (basis +ℤ slack) <ℤ alone → int_le alone (basis +ℤ slack) ≡ false
+    test h = grind (arith, h)
