@@ -1,0 +1,236 @@
+-- The split that a round chooses: its energy, and that it divides the feed.
+use Rattle.std.proofs.Common.{◌≡◌, ℕ, zero, suc, ◌+◌, ◌-◌, ◌*◌, ◌^◌, ◌<◌, ◌≤◌, Bool, true, false, cond, List, [], ◌∷◌, ◌++◌, length, map, ℤ, pos, neg_ℤ, ◌+ℤ◌, ◌*ℤ◌, ◌≤ℤ◌, ◌<ℤ◌, unsigned_abs, slice_index, refl, ap, sym, ◌∙◌, arith, lit<}
+use Rattle.std.specs.Prelude.{if◌then◌else◌, nat_eq, nat_lt, int_le}
+use Rattle.std.specs.Int.{int_max}
+use Rattle.std.specs.List.{All}
+use Rattle.std.proofs.Math.Nat.{mul-pos, zero-div}
+use Rattle.std.proofs.lemmas.Bool.Decides.{nat_tests}
+use Rattle.std.proofs.lemmas.Int.{ints, clamps}
+use Rattle.std.proofs.lemmas.List.{append-nil}
+use Rattle.std.proofs.lemmas.List.Elements.{All-cons, All-nil}
+use Rattle.std.proofs.lemmas.Nat.{div-mul-add}
+use Rattle.log_laws.specs.Sums.{sum_below, int_sum_below, list_below}
+use Rattle.log_laws.specs.Whole.{ceil_quotient, ceil_over}
+use Rattle.log_laws.proofs.Exports.{floor_over-le, lt-floor_over}
+use Rattle.case_types.specs.declared.cases.Case.{Case}
+use Rattle.case_types.specs.declared.phases.Phase.{Phase}
+use Rattle.case_types.specs.declared.phases.Split.{Split}
+use Rattle.case_types.specs.declared.rounds.Column.{Column}
+use Rattle.case_types.specs.Arithmetic.Bounds.{Box, one, share_down, share_up, box_of_parts}
+use Rattle.case_types.specs.Arithmetic.Splits.{share_of_energy, phase_up, phases_up, split_up}
+use Rattle.case_types.specs.Energy.Divisions.{state_of, IsState, Divides, division_of}
+use Rattle.case_types.proofs.Exports.{box_same, state_of-is_state, total_positive}
+use Rattle.energy_surface.specs.Columns.{IsColumn}
+use Rattle.energy_surface.specs.Program.Bases.{no_column, column_at, system, AreColumns, IsBasis}
+use Rattle.energy_surface.specs.Program.Solutions.{size}
+use Rattle.energy_surface.specs.Program.Splits.{weighted_phase, weighted_phases, weight_of, phases_below}
+use Rattle.energy_surface.specs.Rounds.{basis_up}
+use Rattle.energy_surface.specs.Surfaces.{Surface}
+use Rattle.exact_lp.proofs.Exports.{spans_above, up_of_column, phases_small, phases_up-append, basis_split_divides, live_parts_sum, no_weight, some_weight, phase_has_packing}
+use Rattle.surface_rounds.specs.declared.choices.Choice.{Choice}
+use Rattle.surface_rounds.specs.declared.choices.Choice.TheVariants.{OnePhase, OfBasis}
+use Rattle.surface_rounds.specs.declared.choices.Chosen.{Chosen}
+use Rattle.surface_rounds.specs.Choices.{chosen, columns_up, feed_part, feed_phase, IsOnePhase, IsSplitBy}
+
+-- ---- shares of nothing and of all
+ceiling_of : (u : ℤ) → ceil_over (pos (2 ^ 60) *ℤ u) (2 ^ 60) ≡ u
+ceiling_of u =
+    let x : ℤ = pos (2 ^ 60) *ℤ u in
+    let low = floor_over-le (neg_ℤ x) (2 ^ 60) (lit< tt) in
+    let high = lt-floor_over (neg_ℤ x) (2 ^ 60) (lit< tt) in
+    omega (arith, ints, low, high)
+
+greater_same : (x : ℤ) → int_max x x ≡ x
+greater_same x = omega (arith, ints, clamps)
+
+-- a share that is whole either way
+exact_share : (m q w : ℕ) (u : ℤ) → share_down (2 ^ 60) m q ≡ w → share_up (2 ^ 60) m q ≡ w → share_of_energy m q u ≡ ceil_over (pos w *ℤ u) (2 ^ 60)
+exact_share m q w u down up = rw (down, up, greater_same (pos w *ℤ u)) refl
+
+whole_share : (w : ℕ) (u : ℤ) → 0 < w → share_of_energy w w u ≡ u
+whole_share w u some =
+    let turned : w * 2 ^ 60 ≡ 2 ^ 60 * w = omega arith in
+    let plain : 2 ^ 60 * w ≡ 2 ^ 60 * w + 0 = omega arith in
+    exact_share w w (2 ^ 60) u
+    (rw (turned, plain) (div-mul-add (2 ^ 60) w 0 some)) (rw turned (div-mul-add (2 ^ 60) w (w - 1) (omega (arith, some))))
+    ∙ ceiling_of u
+
+no_product : (u : ℤ) → pos 0 *ℤ u ≡ pos 0
+no_product u = omega (arith, ints)
+
+no_share : (q : ℕ) (u : ℤ) → 0 < q → share_of_energy 0 q u ≡ pos 0
+no_share q u some =
+    let none : 0 + (q - 1) ≡ 0 * q + (q - 1) = omega arith in
+    exact_share 0 q 0 u (zero-div q) (rw none (div-mul-add 0 q (q - 1) (omega (arith, some)))) ∙ ap (λ z. ceil_over z (2 ^ 60)) (no_product u)
+
+pub share_same : (m p q r : ℕ) (u v : ℤ) → m ≡ p → q ≡ r → u ≡ v → share_of_energy m q u ≡ share_of_energy p r v
+share_same m p q r u v e f g = rw (e, f, g) refl
+
+-- ---- the energy of the split of a basis
+module _ (s : Surface) (c : Case) (cols : List Column) (at : List ℕ) (count : s.count ≡ c.n) (basis : IsBasis c cols at) (good : All (λ (col : Column). IsColumn s col) cols) where
+  whole_some : 0 < c.total * size c.n (system cols at)
+  whole_some = mul-pos (total_positive c) (spans_above c cols at basis)
+
+  no_more : (z : ℤ) → z ≡ z +ℤ pos 0
+  no_more z = omega (arith, ints)
+
+  one_more : (k : ℕ) (b : Bool) → nat_eq (weight_of c cols at k) 0 ≡ b → k < c.n → (fs : List Phase) →
+      phases_up s.count s.up (c.total * size c.n (system cols at)) (fs ++ weighted_phases c.n (weight_of c cols at k) (column_at cols (slice_index at k)))
+      ≡ phases_up s.count s.up (c.total * size c.n (system cols at)) fs
+      +ℤ share_of_energy (weight_of c cols at k * 2 ^ 20) (c.total * size c.n (system cols at)) (column_at cols (slice_index at k)).up
+  one_more k true e h fs =
+      let q = c.total * size c.n (system cols at) in
+      rw (e, append-nil fs, no_weight (weight_of c cols at k) e, no_share q (column_at cols (slice_index at k)).up whole_some) (no_more (phases_up s.count s.up q fs))
+  one_more k false e h fs =
+      let q = c.total * size c.n (system cols at) in
+      let w = weight_of c cols at k in
+      let col = column_at cols (slice_index at k) in
+      let is = good (slice_index at k) no_column (basis.inside k h) in
+      let some : 1 ≤ w = omega (arith, some_weight w e) in
+      let light : sum_below s.count (slice_index (weighted_phase c.n w col).parts) ≡ w * 2 ^ 20 =
+      rw count (live_parts_sum c.n c.some c.few w col.comp ∙ ap (λ (t : ℕ). w * t) (rw count at is.point.whole)) in
+      rw e (phases_up-append s.count s.up q fs (weighted_phase c.n w col)
+      ∙ ap (λ (t : ℤ). phases_up s.count s.up q fs +ℤ t) (rw (up_of_column s c.n w col count c.some c.few some is, light) refl))
+
+  phases_are_shares : (k : ℕ) → k ≤ c.n →
+      int_sum_below k (λ k. share_of_energy (weight_of c cols at k * 2 ^ 20) (c.total * size c.n (system cols at)) (column_at cols (slice_index at k)).up)
+      ≡ phases_up s.count s.up (c.total * size c.n (system cols at)) (phases_below c cols at k)
+  unfolding int_sum_below phases_up phases_below
+  phases_are_shares zero h = refl
+  phases_are_shares (suc k) h =
+      ap (λ (t : ℤ). t +ℤ share_of_energy (weight_of c cols at k * 2 ^ 20) (c.total * size c.n (system cols at)) (column_at cols (slice_index at k)).up) (phases_are_shares k (omega (arith, h)))
+      ∙ sym (one_more k (nat_eq (weight_of c cols at k) 0) refl (omega (arith, h)) (phases_below c cols at k))
+
+pub columns_up_is : (s : Surface) (c : Case) (cols : List Column) (at : List ℕ) → s.count ≡ c.n → IsBasis c cols at → All (λ (col : Column). IsColumn s col) cols →
+    columns_up c cols at ≡ basis_up s c cols at
+columns_up_is s c cols at count basis good = phases_are_shares s c cols at count basis good c.n (omega arith)
+
+-- ---- the feed as one phase
+live_test : (i n : ℕ) → i < n → nat_lt i n ≡ true
+live_test i n h = grind (arith, nat_tests, h)
+
+feed_part_of : (c : Case) (y i : ℕ) → i < c.n → slice_index (feed_phase c y).parts i ≡ slice_index c.z i
+feed_part_of c y zero h = rw (live_test 0 c.n h) refl
+feed_part_of c y (suc zero) h = rw (live_test 1 c.n h) refl
+feed_part_of c y (suc (suc zero)) h = rw (live_test 2 c.n h) refl
+feed_part_of c y (suc (suc (suc zero))) h = rw (live_test 3 c.n h) refl
+feed_part_of c y (suc (suc (suc (suc i)))) h = absurd (omega (arith, h, c.few))
+
+sum_below-same : (n : ℕ) (f g : ℕ → ℕ) → ((k : ℕ) → k < n → f k ≡ g k) → sum_below n f ≡ sum_below n g
+sum_below-same zero f g h = refl
+sum_below-same (suc n) f g h = rw (sum_below-same n f g (λ k l. h k (omega (arith, l))), h n (omega arith)) refl
+
+pub feed_parts_sum : (c : Case) (y : ℕ) → sum_below c.n (slice_index (feed_phase c y).parts) ≡ c.total
+feed_parts_sum c y = sum_below-same c.n (slice_index (feed_phase c y).parts) (slice_index c.z) (feed_part_of c y) ∙ c.added
+
+-- what is masked twice
+masked : (b : Bool) (f : ℕ → ℕ) (x : ℕ) → cond b (f (if b then x else 0)) 0 ≡ cond b (f x) 0
+masked true f x = refl
+masked false f x = refl
+
+ends_of_feed : (c : Case) (y : ℕ) (f : ℕ → ℕ) →
+    list_below 4 (λ i. cond (nat_lt i c.n) (f (slice_index (feed_phase c y).parts i)) 0) ≡ list_below 4 (λ i. cond (nat_lt i c.n) (f (slice_index c.z i)) 0)
+unfolding list_below
+ends_of_feed c y f =
+    rw (
+      masked (nat_lt 0 c.n) f (slice_index c.z 0),
+      masked (nat_lt 1 c.n) f (slice_index c.z 1),
+      masked (nat_lt 2 c.n) f (slice_index c.z 2),
+      masked (nat_lt 3 c.n) f (slice_index c.z 3),
+    ) refl
+
+pub feed_box_is : (c : Case) (y : ℕ) → box_of_parts c.n (feed_phase c y).parts ≡ box_of_parts c.n c.z
+feed_box_is c y =
+    let e = feed_parts_sum c y ∙ sym c.added in
+    let m = sum_below c.n (slice_index c.z) in
+    box_same _ _ (box_of_parts c.n c.z)
+    (rw e (ends_of_feed c y (λ p. share_down one p m))) (rw e (ends_of_feed c y (λ p. share_up one p m)))
+
+phases_alone : (n : ℕ) (up : Box → ℕ → ℤ) (sum : ℕ) (f : Phase) → phases_up n up sum (f ∷ []) ≡ share_of_energy (sum_below n (slice_index f.parts)) sum (phase_up n up f)
+unfolding phases_up
+phases_alone n up sum f = plus_none (share_of_energy (sum_below n (slice_index f.parts)) sum (phase_up n up f))
+  where
+    plus_none : (z : ℤ) → z +ℤ pos 0 ≡ z
+    plus_none z = omega (arith, ints)
+
+feed_up : (s : Surface) (c : Case) (y : ℕ) → s.count ≡ c.n → phase_up s.count s.up (feed_phase c y) ≡ s.up (box_of_parts c.n c.z) y
+feed_up s c y count = ap (λ n. s.up (box_of_parts n (feed_phase c y).parts) y) count ∙ ap (λ x. s.up x y) (feed_box_is c y)
+
+pub one_phase_energy : (s : Surface) (c : Case) (y : ℕ) (up : ℤ) (split : Split) → s.count ≡ c.n → IsOnePhase c y split →
+    up ≡ s.up (box_of_parts c.n c.z) y → up ≡ split_up s.count s.up split
+one_phase_energy s c y up split count is e =
+    let all = ap (λ n. sum_below n (slice_index (feed_phase c y).parts)) count ∙ feed_parts_sum c y in
+    rw (is.sum, is.phases)
+    (e ∙ sym (feed_up s c y count) ∙ sym (whole_share c.total (phase_up s.count s.up (feed_phase c y)) (total_positive c))
+    ∙ share_same _ _ _ _ _ _ (sym all) refl refl ∙ sym (phases_alone s.count s.up c.total (feed_phase c y)))
+
+pub one_phase_divides : (c : Case) (y : ℕ) (split : Split) → IsOnePhase c y split → 1 ≤ y → y < 2 ^ 40 → Divides c (division_of split)
+one_phase_divides c y split is some inside = record {
+  positive = rw is.sum (total_positive c);
+  phases =
+      rw is.phases (All-cons (IsState c.n) (state_of (feed_phase c y)) []
+      (state_of-is_state c.n (feed_phase c y) (phase_has_packing y some inside) (rw (feed_parts_sum c y) (total_positive c))) (All-nil (IsState c.n)));
+  adds_up = λ i h. rw (is.sum, is.phases) (turned (slice_index (feed_phase c y).parts i) (slice_index c.z i) c.total (feed_part_of c y i h));
+}
+  where
+    turned : (a z t : ℕ) → a ≡ z → t * (a + 0) ≡ z * t
+    turned a z t e = rw e (omega arith)
+
+-- ---- the split that is chosen
+pub split_by_divides : (c : Case) (cols : List Column) (at : List ℕ) (y : ℕ) (choice : Choice) (split : Split) → AreColumns c.n cols → IsBasis c cols at →
+    1 ≤ y → y < 2 ^ 40 → IsSplitBy c cols at y choice split → Divides c (division_of split)
+split_by_divides c cols at y OnePhase split good basis some inside is = one_phase_divides c y split is some inside
+split_by_divides c cols at y OfBasis split good basis some inside is = basis_split_divides c cols at split good basis is
+
+pub split_by_energy : (s : Surface) (c : Case) (cols : List Column) (at : List ℕ) (y : ℕ) (alone slack : ℤ) (split : Split) → s.count ≡ c.n → IsBasis c cols at →
+    All (λ (col : Column). IsColumn s col) cols → alone ≡ s.up (box_of_parts c.n c.z) y →
+    IsSplitBy c cols at y (chosen alone (columns_up c cols at) slack).choice split → (chosen alone (columns_up c cols at) slack).u ≡ split_up s.count s.up split
+split_by_energy s c cols at y alone slack split count basis good e = by (int_le alone (columns_up c cols at +ℤ slack))
+  where
+    either : Bool → Chosen
+    either b = if b then (record { choice = OnePhase; u = alone }) else (record { choice = OfBasis; u = columns_up c cols at })
+
+    by : (b : Bool) → IsSplitBy c cols at y (either b).choice split → (either b).u ≡ split_up s.count s.up split
+    by true is = one_phase_energy s c y alone split count is e
+    by false is = columns_up_is s c cols at count basis good ∙ sym (ap (λ q. phases_up s.count s.up q split.phases.items) is.sum ∙ ap (phases_up s.count s.up (c.total * size c.n (system cols at))) is.phases)
+
+pub split_by_small : (s : Surface) (c : Case) (cols : List Column) (at : List ℕ) (y : ℕ) (alone : ℤ) (choice : Choice) (split : Split) → s.count ≡ c.n → IsBasis c cols at →
+    All (λ (col : Column). IsColumn s col) cols → alone ≡ s.up (box_of_parts c.n c.z) y → unsigned_abs alone < 2 ^ 49 → IsSplitBy c cols at y choice split →
+    All (λ (f : Phase). unsigned_abs (phase_up s.count s.up f) < 2 ^ 49) split.phases.items
+split_by_small s c cols at y alone OnePhase split count basis good e small is =
+    rw is.phases (All-cons (λ (f : Phase). unsigned_abs (phase_up s.count s.up f) < 2 ^ 49) (feed_phase c y) []
+    (rw (feed_up s c y count, ← e) small) (All-nil (λ (f : Phase). unsigned_abs (phase_up s.count s.up f) < 2 ^ 49)))
+split_by_small s c cols at y alone OfBasis split count basis good e small is = rw is.phases (phases_small s c cols at count basis good)
+
+pub chosen_near : (alone basis slack : ℤ) → pos 0 ≤ℤ slack →
+    ((chosen alone basis slack).u ≤ℤ (basis +ℤ slack)) × ((chosen alone basis slack).u ≤ℤ (alone +ℤ slack))
+chosen_near alone basis slack some = by (int_le alone (basis +ℤ slack)) refl
+  where
+    either : Bool → Chosen
+    either b = if b then (record { choice = OnePhase; u = alone }) else (record { choice = OfBasis; u = basis })
+
+    raised : (z : ℤ) → z ≤ℤ (z +ℤ slack)
+    raised z = omega (arith, ints, some)
+
+    no_more : int_le alone (basis +ℤ slack) ≡ true → alone ≤ℤ (basis +ℤ slack)
+    no_more h = grind (arith, h)
+
+    more : int_le alone (basis +ℤ slack) ≡ false → basis ≤ℤ (alone +ℤ slack)
+    more h = omega (arith, ints, some, h)
+
+    by : (b : Bool) → int_le alone (basis +ℤ slack) ≡ b → ((either b).u ≤ℤ (basis +ℤ slack)) × ((either b).u ≤ℤ (alone +ℤ slack))
+    by true h = (no_more h, raised alone)
+    by false h = (raised basis, more h)
+
+-- ---- by the test
+pub chosen_alone : (alone basis slack : ℤ) → alone ≤ℤ (basis +ℤ slack) → ◌≡◌ {A = Chosen} (record { choice = OnePhase; u = alone }) (chosen alone basis slack)
+chosen_alone alone basis slack h = rw (test h) refl
+  where
+    test : alone ≤ℤ (basis +ℤ slack) → int_le alone (basis +ℤ slack) ≡ true
+    test h = grind (arith, h)
+
+pub chosen_basis : (alone basis slack : ℤ) → (basis +ℤ slack) <ℤ alone → ◌≡◌ {A = Chosen} (record { choice = OfBasis; u = basis }) (chosen alone basis slack)
+chosen_basis alone basis slack h = rw (test h) refl
+  where
+    test : (basis +ℤ slack) <ℤ alone → int_le alone (basis +ℤ slack) ≡ false
+    test h = grind (arith, h)
