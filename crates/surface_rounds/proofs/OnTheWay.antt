@@ -69,7 +69,7 @@ pub record OnTheWay (s : Surface) (c : Case) (tol : ℕ) (alone : Scanned) (unit
   pub choice : x ≡ chosen alone.up (columns_up c w.columns.items to) (slack_of tol)
 
 module _ (s : Surface) (c : Case) (tol : ℕ) (alone : Scanned) (units mid : Units) (w : Work) (pivots : Spared Pivot) (at to : List ℕ) (x : Chosen) (h : OnTheWay s c tol alone units mid w pivots at to x) where
-  good : AreColumns c.n w.columns.items
+  pub good : AreColumns c.n w.columns.items
   good = are_columns s c w.columns.items h.count (few_columns units w h.between.counted) h.between.flashing.kept
 
   flashing : IsFlashing s c tol mid.spent (with_pivots w pivots) to
@@ -135,7 +135,7 @@ module _ (s : Surface) (c : Case) (tol : ℕ) (alone : Scanned) (units mid : Uni
     units_now : now.spent ≡ mid.spent + (now.spent - mid.spent)
     units_now = omega (arith, more)
 
-    after_end : (low : ℤ) → low_of found ≡ Some low → IsAfterRounds s c tol now new to alone.up (record { chosen = x; plane = plane; found = found })
+    pub after_end : (low : ℤ) → low_of found ≡ Some low → IsAfterRounds s c tol now new to alone.up (record { chosen = x; plane = plane; found = found })
     after_end low ends =
         let stay = columns_stay s c tol mid.spent (with_pivots w pivots) new to plane x.u (now.spent - mid.spent) found searched low ends in
         record {
@@ -148,7 +148,7 @@ module _ (s : Surface) (c : Case) (tol : ℕ) (alone : Scanned) (units mid : Uni
           over = λ z e. over_whole s plane.lam (low_of found) z went.searched.searched.tree e went.searched.searched.low;
         }
 
-    after_refuted : (kept : Column) → found ≡ Refuted kept → plain_low s plane.lam (root_region s.count) <ℤ neg_ℤ (delta_of tol) →
+    pub after_refuted : (kept : Column) → found ≡ Refuted kept → plain_low s plane.lam (root_region s.count) <ℤ neg_ℤ (delta_of tol) →
         HasRoom (now.budget - now.spent) new → IsCounted now.spent new → IsBetweenRounds s c tol now new to
     after_refuted kept e low room counted = record {
       flashing = flashing_on s c tol mid.spent (with_pivots w pivots) new to plane x.u (now.spent - mid.spent) found searched kept e now.spent units_now;
