@@ -1,25 +1,24 @@
 -- The split that a round chooses: its energy, and that it divides the feed.
-use Rattle.std.proofs.Common.{◌≡◌, ℕ, zero, suc, ◌+◌, ◌-◌, ◌*◌, ◌^◌, ◌<◌, ◌≤◌, Bool, true, false, cond, List, [], ◌∷◌, ◌++◌, length, map, ℤ, pos, neg_ℤ, ◌+ℤ◌, ◌*ℤ◌, ◌≤ℤ◌, ◌<ℤ◌, unsigned_abs, slice_index, refl, ap, sym, ◌∙◌, arith, lit<}
-use Rattle.std.specs.Prelude.{if◌then◌else◌, nat_eq, nat_lt, int_le}
+use Rattle.std.proofs.Common.{◌≡◌, ℕ, zero, suc, ◌+◌, ◌-◌, ◌*◌, ◌^◌, ◌<◌, ◌≤◌, Bool, true, false, List, [], ◌∷◌, ◌++◌, ℤ, pos, neg_ℤ, ◌+ℤ◌, ◌*ℤ◌, ◌≤ℤ◌, ◌<ℤ◌, unsigned_abs, slice_index, refl, ap, sym, ◌∙◌, arith, lit<}
+use Rattle.std.specs.Prelude.{if◌then◌else◌, nat_eq, int_le}
 use Rattle.std.specs.Int.{int_max}
 use Rattle.std.specs.List.{All}
 use Rattle.std.proofs.Math.Nat.{mul-pos, zero-div}
-use Rattle.std.proofs.lemmas.Bool.Decides.{nat_tests}
 use Rattle.std.proofs.lemmas.Int.{ints, clamps}
 use Rattle.std.proofs.lemmas.List.{append-nil}
 use Rattle.std.proofs.lemmas.List.Elements.{All-cons, All-nil}
 use Rattle.std.proofs.lemmas.Nat.{div-mul-add}
-use Rattle.log_laws.specs.Sums.{sum_below, int_sum_below, list_below}
-use Rattle.log_laws.specs.Whole.{ceil_quotient, ceil_over}
+use Rattle.log_laws.specs.Sums.{sum_below, int_sum_below}
+use Rattle.log_laws.specs.Whole.{ceil_over}
 use Rattle.log_laws.proofs.Exports.{floor_over-le, lt-floor_over}
 use Rattle.case_types.specs.declared.cases.Case.{Case}
 use Rattle.case_types.specs.declared.phases.Phase.{Phase}
 use Rattle.case_types.specs.declared.phases.Split.{Split}
 use Rattle.case_types.specs.declared.rounds.Column.{Column}
-use Rattle.case_types.specs.Arithmetic.Bounds.{Box, one, share_down, share_up, box_of_parts}
+use Rattle.case_types.specs.Arithmetic.Bounds.{Box, share_down, share_up, box_of_parts}
 use Rattle.case_types.specs.Arithmetic.Splits.{share_of_energy, phase_up, phases_up, split_up}
 use Rattle.case_types.specs.Energy.Divisions.{state_of, IsState, Divides, division_of}
-use Rattle.case_types.proofs.Exports.{box_same, state_of-is_state, total_positive}
+use Rattle.case_types.proofs.Exports.{state_of-is_state, total_positive}
 use Rattle.energy_surface.specs.Columns.{IsColumn}
 use Rattle.energy_surface.specs.Program.Bases.{no_column, column_at, system, AreColumns, IsBasis}
 use Rattle.energy_surface.specs.Program.Solutions.{size}
@@ -30,7 +29,8 @@ use Rattle.exact_lp.proofs.Exports.{spans_above, up_of_column, phases_small, pha
 use Rattle.surface_rounds.specs.declared.choices.Choice.{Choice}
 use Rattle.surface_rounds.specs.declared.choices.Choice.TheVariants.{OnePhase, OfBasis}
 use Rattle.surface_rounds.specs.declared.choices.Chosen.{Chosen}
-use Rattle.surface_rounds.specs.Choices.{chosen, columns_up, feed_part, feed_phase, IsOnePhase, IsSplitBy}
+use Rattle.surface_rounds.proofs.FeedPhase.{feed_part_of, feed_parts_sum, feed_box_is}
+use Rattle.surface_rounds.specs.Choices.{chosen, columns_up, feed_phase, IsOnePhase, IsSplitBy}
 
 -- ---- shares of nothing and of all
 ceiling_of : (u : ℤ) → ceil_over (pos (2 ^ 60) *ℤ u) (2 ^ 60) ≡ u
@@ -106,46 +106,6 @@ pub columns_up_is : (s : Surface) (c : Case) (cols : List Column) (at : List ℕ
 columns_up_is s c cols at count basis good = phases_are_shares s c cols at count basis good c.n (omega arith)
 
 -- ---- the feed as one phase
-live_test : (i n : ℕ) → i < n → nat_lt i n ≡ true
-live_test i n h = grind (arith, nat_tests, h)
-
-feed_part_of : (c : Case) (y i : ℕ) → i < c.n → slice_index (feed_phase c y).parts i ≡ slice_index c.z i
-feed_part_of c y zero h = rw (live_test 0 c.n h) refl
-feed_part_of c y (suc zero) h = rw (live_test 1 c.n h) refl
-feed_part_of c y (suc (suc zero)) h = rw (live_test 2 c.n h) refl
-feed_part_of c y (suc (suc (suc zero))) h = rw (live_test 3 c.n h) refl
-feed_part_of c y (suc (suc (suc (suc i)))) h = absurd (omega (arith, h, c.few))
-
-sum_below-same : (n : ℕ) (f g : ℕ → ℕ) → ((k : ℕ) → k < n → f k ≡ g k) → sum_below n f ≡ sum_below n g
-sum_below-same zero f g h = refl
-sum_below-same (suc n) f g h = rw (sum_below-same n f g (λ k l. h k (omega (arith, l))), h n (omega arith)) refl
-
-pub feed_parts_sum : (c : Case) (y : ℕ) → sum_below c.n (slice_index (feed_phase c y).parts) ≡ c.total
-feed_parts_sum c y = sum_below-same c.n (slice_index (feed_phase c y).parts) (slice_index c.z) (feed_part_of c y) ∙ c.added
-
--- what is masked twice
-masked : (b : Bool) (f : ℕ → ℕ) (x : ℕ) → cond b (f (if b then x else 0)) 0 ≡ cond b (f x) 0
-masked true f x = refl
-masked false f x = refl
-
-ends_of_feed : (c : Case) (y : ℕ) (f : ℕ → ℕ) →
-    list_below 4 (λ i. cond (nat_lt i c.n) (f (slice_index (feed_phase c y).parts i)) 0) ≡ list_below 4 (λ i. cond (nat_lt i c.n) (f (slice_index c.z i)) 0)
-unfolding list_below
-ends_of_feed c y f =
-    rw (
-      masked (nat_lt 0 c.n) f (slice_index c.z 0),
-      masked (nat_lt 1 c.n) f (slice_index c.z 1),
-      masked (nat_lt 2 c.n) f (slice_index c.z 2),
-      masked (nat_lt 3 c.n) f (slice_index c.z 3),
-    ) refl
-
-pub feed_box_is : (c : Case) (y : ℕ) → box_of_parts c.n (feed_phase c y).parts ≡ box_of_parts c.n c.z
-feed_box_is c y =
-    let e = feed_parts_sum c y ∙ sym c.added in
-    let m = sum_below c.n (slice_index c.z) in
-    box_same _ _ (box_of_parts c.n c.z)
-    (rw e (ends_of_feed c y (λ p. share_down one p m))) (rw e (ends_of_feed c y (λ p. share_up one p m)))
-
 phases_alone : (n : ℕ) (up : Box → ℕ → ℤ) (sum : ℕ) (f : Phase) → phases_up n up sum (f ∷ []) ≡ share_of_energy (sum_below n (slice_index f.parts)) sum (phase_up n up f)
 unfolding phases_up
 phases_alone n up sum f = plus_none (share_of_energy (sum_below n (slice_index f.parts)) sum (phase_up n up f))
