@@ -29,8 +29,8 @@ use Rattle.exact_lp.proofs.Exports.{spans_above, up_of_column, phases_small, pha
 use Rattle.surface_rounds.specs.declared.choices.Choice.{Choice}
 use Rattle.surface_rounds.specs.declared.choices.Choice.TheVariants.{OnePhase, OfBasis}
 use Rattle.surface_rounds.specs.declared.choices.Chosen.{Chosen}
-use Rattle.surface_rounds.proofs.FeedPhase.{feed_part_of, feed_parts_sum, feed_box_is}
 use Rattle.surface_rounds.specs.Choices.{chosen, columns_up, feed_phase, IsOnePhase, IsSplitBy}
+use Rattle.surface_rounds.proofs.FeedPhase.{feed_part_of, feed_parts_sum, feed_box_is}
 
 -- ---- shares of nothing and of all
 ceiling_of : (u : ℤ) → ceil_over (pos (2 ^ 60) *ℤ u) (2 ^ 60) ≡ u
@@ -74,6 +74,7 @@ module _ (s : Surface) (c : Case) (cols : List Column) (at : List ℕ) (count : 
   no_more : (z : ℤ) → z ≡ z +ℤ pos 0
   no_more z = omega (arith, ints)
 
+  -- one column more of the basis
   one_more : (k : ℕ) (b : Bool) → nat_eq (weight_of c cols at k) 0 ≡ b → k < c.n → (fs : List Phase) →
       phases_up s.count s.up (c.total * size c.n (system cols at)) (fs ++ weighted_phases c.n (weight_of c cols at k) (column_at cols (slice_index at k)))
       ≡ phases_up s.count s.up (c.total * size c.n (system cols at)) fs
@@ -116,6 +117,7 @@ phases_alone n up sum f = plus_none (share_of_energy (sum_below n (slice_index f
 feed_up : (s : Surface) (c : Case) (y : ℕ) → s.count ≡ c.n → phase_up s.count s.up (feed_phase c y) ≡ s.up (box_of_parts c.n c.z) y
 feed_up s c y count = ap (λ n. s.up (box_of_parts n (feed_phase c y).parts) y) count ∙ ap (λ x. s.up x y) (feed_box_is c y)
 
+-- its energy is that of the state
 pub one_phase_energy : (s : Surface) (c : Case) (y : ℕ) (up : ℤ) (split : Split) → s.count ≡ c.n → IsOnePhase c y split →
     up ≡ s.up (box_of_parts c.n c.z) y → up ≡ split_up s.count s.up split
 one_phase_energy s c y up split count is e =
@@ -142,6 +144,7 @@ pub split_by_divides : (c : Case) (cols : List Column) (at : List ℕ) (y : ℕ)
 split_by_divides c cols at y OnePhase split good basis some inside is = one_phase_divides c y split is some inside
 split_by_divides c cols at y OfBasis split good basis some inside is = basis_split_divides c cols at split good basis is
 
+-- its energy is the one that is chosen
 pub split_by_energy : (s : Surface) (c : Case) (cols : List Column) (at : List ℕ) (y : ℕ) (alone slack : ℤ) (split : Split) → s.count ≡ c.n → IsBasis c cols at →
     All (λ (col : Column). IsColumn s col) cols → alone ≡ s.up (box_of_parts c.n c.z) y →
     IsSplitBy c cols at y (chosen alone (columns_up c cols at) slack).choice split → (chosen alone (columns_up c cols at) slack).u ≡ split_up s.count s.up split
@@ -154,6 +157,7 @@ split_by_energy s c cols at y alone slack split count basis good e = by (int_le 
     by true is = one_phase_energy s c y alone split count is e
     by false is = columns_up_is s c cols at count basis good ∙ sym (ap (λ q. phases_up s.count s.up q split.phases.items) is.sum ∙ ap (phases_up s.count s.up (c.total * size c.n (system cols at))) is.phases)
 
+-- the energies of its phases are small
 pub split_by_small : (s : Surface) (c : Case) (cols : List Column) (at : List ℕ) (y : ℕ) (alone : ℤ) (choice : Choice) (split : Split) → s.count ≡ c.n → IsBasis c cols at →
     All (λ (col : Column). IsColumn s col) cols → alone ≡ s.up (box_of_parts c.n c.z) y → unsigned_abs alone < 2 ^ 49 → IsSplitBy c cols at y choice split →
     All (λ (f : Phase). unsigned_abs (phase_up s.count s.up f) < 2 ^ 49) split.phases.items
@@ -162,6 +166,7 @@ split_by_small s c cols at y alone OnePhase split count basis good e small is =
     (rw (feed_up s c y count, ← e) small) (All-nil (λ (f : Phase). unsigned_abs (phase_up s.count s.up f) < 2 ^ 49)))
 split_by_small s c cols at y alone OfBasis split count basis good e small is = rw is.phases (phases_small s c cols at count basis good)
 
+-- it lies above neither energy by more than the slack
 pub chosen_near : (alone basis slack : ℤ) → pos 0 ≤ℤ slack →
     ((chosen alone basis slack).u ≤ℤ (basis +ℤ slack)) × ((chosen alone basis slack).u ≤ℤ (alone +ℤ slack))
 chosen_near alone basis slack some = by (int_le alone (basis +ℤ slack)) refl
@@ -182,7 +187,7 @@ chosen_near alone basis slack some = by (int_le alone (basis +ℤ slack)) refl
     by true h = (no_more h, raised alone)
     by false h = (raised basis, more h)
 
--- ---- by the test
+-- which one is chosen, by the test of a program
 pub chosen_alone : (alone basis slack : ℤ) → alone ≤ℤ (basis +ℤ slack) → ◌≡◌ {A = Chosen} (record { choice = OnePhase; u = alone }) (chosen alone basis slack)
 chosen_alone alone basis slack h = rw (test h) refl
   where
