@@ -1,25 +1,24 @@
 -- The split that a round chooses: its energy, and that it divides the feed.
-use Rattle.std.proofs.Common.{◌≡◌, ℕ, zero, suc, ◌+◌, ◌-◌, ◌*◌, ◌^◌, ◌<◌, ◌≤◌, Bool, true, false, cond, List, [], ◌∷◌, ◌++◌, length, map, ℤ, pos, neg_ℤ, ◌+ℤ◌, ◌*ℤ◌, ◌≤ℤ◌, ◌<ℤ◌, unsigned_abs, slice_index, refl, ap, sym, ◌∙◌, arith, lit<}
-use Rattle.std.specs.Prelude.{if◌then◌else◌, nat_eq, nat_lt, int_le}
+use Rattle.std.proofs.Common.{◌≡◌, ℕ, zero, suc, ◌+◌, ◌-◌, ◌*◌, ◌^◌, ◌<◌, ◌≤◌, Bool, true, false, List, [], ◌∷◌, ◌++◌, ℤ, pos, neg_ℤ, ◌+ℤ◌, ◌*ℤ◌, ◌≤ℤ◌, ◌<ℤ◌, unsigned_abs, slice_index, refl, ap, sym, ◌∙◌, arith, lit<}
+use Rattle.std.specs.Prelude.{if◌then◌else◌, nat_eq, int_le}
 use Rattle.std.specs.Int.{int_max}
 use Rattle.std.specs.List.{All}
 use Rattle.std.proofs.Math.Nat.{mul-pos, zero-div}
-use Rattle.std.proofs.lemmas.Bool.Decides.{nat_tests}
 use Rattle.std.proofs.lemmas.Int.{ints, clamps}
 use Rattle.std.proofs.lemmas.List.{append-nil}
 use Rattle.std.proofs.lemmas.List.Elements.{All-cons, All-nil}
 use Rattle.std.proofs.lemmas.Nat.{div-mul-add}
-use Rattle.log_laws.specs.Sums.{sum_below, int_sum_below, list_below}
-use Rattle.log_laws.specs.Whole.{ceil_quotient, ceil_over}
+use Rattle.log_laws.specs.Sums.{sum_below, int_sum_below}
+use Rattle.log_laws.specs.Whole.{ceil_over}
 use Rattle.log_laws.proofs.Exports.{floor_over-le, lt-floor_over}
 use Rattle.case_types.specs.declared.cases.Case.{Case}
 use Rattle.case_types.specs.declared.phases.Phase.{Phase}
 use Rattle.case_types.specs.declared.phases.Split.{Split}
 use Rattle.case_types.specs.declared.rounds.Column.{Column}
-use Rattle.case_types.specs.Arithmetic.Bounds.{Box, one, share_down, share_up, box_of_parts}
+use Rattle.case_types.specs.Arithmetic.Bounds.{Box, share_down, share_up, box_of_parts}
 use Rattle.case_types.specs.Arithmetic.Splits.{share_of_energy, phase_up, phases_up, split_up}
 use Rattle.case_types.specs.Energy.Divisions.{state_of, IsState, Divides, division_of}
-use Rattle.case_types.proofs.Exports.{box_same, state_of-is_state, total_positive}
+use Rattle.case_types.proofs.Exports.{state_of-is_state, total_positive}
 use Rattle.energy_surface.specs.Columns.{IsColumn}
 use Rattle.energy_surface.specs.Program.Bases.{no_column, column_at, system, AreColumns, IsBasis}
 use Rattle.energy_surface.specs.Program.Solutions.{size}
@@ -30,7 +29,8 @@ use Rattle.exact_lp.proofs.Exports.{spans_above, up_of_column, phases_small, pha
 use Rattle.surface_rounds.specs.declared.choices.Choice.{Choice}
 use Rattle.surface_rounds.specs.declared.choices.Choice.TheVariants.{OnePhase, OfBasis}
 use Rattle.surface_rounds.specs.declared.choices.Chosen.{Chosen}
-use Rattle.surface_rounds.specs.Choices.{chosen, columns_up, feed_part, feed_phase, IsOnePhase, IsSplitBy}
+use Rattle.surface_rounds.specs.Choices.{chosen, columns_up, feed_phase, IsOnePhase, IsSplitBy}
+use Rattle.surface_rounds.proofs.FeedPhase.{feed_part_of, feed_parts_sum, feed_box_is}
 
 -- ---- shares of nothing and of all
 ceiling_of : (u : ℤ) → ceil_over (pos (2 ^ 60) *ℤ u) (2 ^ 60) ≡ u
@@ -74,6 +74,7 @@ module _ (s : Surface) (c : Case) (cols : List Column) (at : List ℕ) (count : 
   no_more : (z : ℤ) → z ≡ z +ℤ pos 0
   no_more z = omega (arith, ints)
 
+  -- one column more of the basis
   one_more : (k : ℕ) (b : Bool) → nat_eq (weight_of c cols at k) 0 ≡ b → k < c.n → (fs : List Phase) →
       phases_up s.count s.up (c.total * size c.n (system cols at)) (fs ++ weighted_phases c.n (weight_of c cols at k) (column_at cols (slice_index at k)))
       ≡ phases_up s.count s.up (c.total * size c.n (system cols at)) fs
@@ -106,46 +107,6 @@ pub columns_up_is : (s : Surface) (c : Case) (cols : List Column) (at : List ℕ
 columns_up_is s c cols at count basis good = phases_are_shares s c cols at count basis good c.n (omega arith)
 
 -- ---- the feed as one phase
-live_test : (i n : ℕ) → i < n → nat_lt i n ≡ true
-live_test i n h = grind (arith, nat_tests, h)
-
-feed_part_of : (c : Case) (y i : ℕ) → i < c.n → slice_index (feed_phase c y).parts i ≡ slice_index c.z i
-feed_part_of c y zero h = rw (live_test 0 c.n h) refl
-feed_part_of c y (suc zero) h = rw (live_test 1 c.n h) refl
-feed_part_of c y (suc (suc zero)) h = rw (live_test 2 c.n h) refl
-feed_part_of c y (suc (suc (suc zero))) h = rw (live_test 3 c.n h) refl
-feed_part_of c y (suc (suc (suc (suc i)))) h = absurd (omega (arith, h, c.few))
-
-sum_below-same : (n : ℕ) (f g : ℕ → ℕ) → ((k : ℕ) → k < n → f k ≡ g k) → sum_below n f ≡ sum_below n g
-sum_below-same zero f g h = refl
-sum_below-same (suc n) f g h = rw (sum_below-same n f g (λ k l. h k (omega (arith, l))), h n (omega arith)) refl
-
-pub feed_parts_sum : (c : Case) (y : ℕ) → sum_below c.n (slice_index (feed_phase c y).parts) ≡ c.total
-feed_parts_sum c y = sum_below-same c.n (slice_index (feed_phase c y).parts) (slice_index c.z) (feed_part_of c y) ∙ c.added
-
--- what is masked twice
-masked : (b : Bool) (f : ℕ → ℕ) (x : ℕ) → cond b (f (if b then x else 0)) 0 ≡ cond b (f x) 0
-masked true f x = refl
-masked false f x = refl
-
-ends_of_feed : (c : Case) (y : ℕ) (f : ℕ → ℕ) →
-    list_below 4 (λ i. cond (nat_lt i c.n) (f (slice_index (feed_phase c y).parts i)) 0) ≡ list_below 4 (λ i. cond (nat_lt i c.n) (f (slice_index c.z i)) 0)
-unfolding list_below
-ends_of_feed c y f =
-    rw (
-      masked (nat_lt 0 c.n) f (slice_index c.z 0),
-      masked (nat_lt 1 c.n) f (slice_index c.z 1),
-      masked (nat_lt 2 c.n) f (slice_index c.z 2),
-      masked (nat_lt 3 c.n) f (slice_index c.z 3),
-    ) refl
-
-pub feed_box_is : (c : Case) (y : ℕ) → box_of_parts c.n (feed_phase c y).parts ≡ box_of_parts c.n c.z
-feed_box_is c y =
-    let e = feed_parts_sum c y ∙ sym c.added in
-    let m = sum_below c.n (slice_index c.z) in
-    box_same _ _ (box_of_parts c.n c.z)
-    (rw e (ends_of_feed c y (λ p. share_down one p m))) (rw e (ends_of_feed c y (λ p. share_up one p m)))
-
 phases_alone : (n : ℕ) (up : Box → ℕ → ℤ) (sum : ℕ) (f : Phase) → phases_up n up sum (f ∷ []) ≡ share_of_energy (sum_below n (slice_index f.parts)) sum (phase_up n up f)
 unfolding phases_up
 phases_alone n up sum f = plus_none (share_of_energy (sum_below n (slice_index f.parts)) sum (phase_up n up f))
@@ -156,6 +117,7 @@ phases_alone n up sum f = plus_none (share_of_energy (sum_below n (slice_index f
 feed_up : (s : Surface) (c : Case) (y : ℕ) → s.count ≡ c.n → phase_up s.count s.up (feed_phase c y) ≡ s.up (box_of_parts c.n c.z) y
 feed_up s c y count = ap (λ n. s.up (box_of_parts n (feed_phase c y).parts) y) count ∙ ap (λ x. s.up x y) (feed_box_is c y)
 
+-- its energy is that of the state
 pub one_phase_energy : (s : Surface) (c : Case) (y : ℕ) (up : ℤ) (split : Split) → s.count ≡ c.n → IsOnePhase c y split →
     up ≡ s.up (box_of_parts c.n c.z) y → up ≡ split_up s.count s.up split
 one_phase_energy s c y up split count is e =
@@ -182,6 +144,7 @@ pub split_by_divides : (c : Case) (cols : List Column) (at : List ℕ) (y : ℕ)
 split_by_divides c cols at y OnePhase split good basis some inside is = one_phase_divides c y split is some inside
 split_by_divides c cols at y OfBasis split good basis some inside is = basis_split_divides c cols at split good basis is
 
+-- its energy is the one that is chosen
 pub split_by_energy : (s : Surface) (c : Case) (cols : List Column) (at : List ℕ) (y : ℕ) (alone slack : ℤ) (split : Split) → s.count ≡ c.n → IsBasis c cols at →
     All (λ (col : Column). IsColumn s col) cols → alone ≡ s.up (box_of_parts c.n c.z) y →
     IsSplitBy c cols at y (chosen alone (columns_up c cols at) slack).choice split → (chosen alone (columns_up c cols at) slack).u ≡ split_up s.count s.up split
@@ -194,6 +157,7 @@ split_by_energy s c cols at y alone slack split count basis good e = by (int_le 
     by true is = one_phase_energy s c y alone split count is e
     by false is = columns_up_is s c cols at count basis good ∙ sym (ap (λ q. phases_up s.count s.up q split.phases.items) is.sum ∙ ap (phases_up s.count s.up (c.total * size c.n (system cols at))) is.phases)
 
+-- the energies of its phases are small
 pub split_by_small : (s : Surface) (c : Case) (cols : List Column) (at : List ℕ) (y : ℕ) (alone : ℤ) (choice : Choice) (split : Split) → s.count ≡ c.n → IsBasis c cols at →
     All (λ (col : Column). IsColumn s col) cols → alone ≡ s.up (box_of_parts c.n c.z) y → unsigned_abs alone < 2 ^ 49 → IsSplitBy c cols at y choice split →
     All (λ (f : Phase). unsigned_abs (phase_up s.count s.up f) < 2 ^ 49) split.phases.items
@@ -202,6 +166,7 @@ split_by_small s c cols at y alone OnePhase split count basis good e small is =
     (rw (feed_up s c y count, ← e) small) (All-nil (λ (f : Phase). unsigned_abs (phase_up s.count s.up f) < 2 ^ 49)))
 split_by_small s c cols at y alone OfBasis split count basis good e small is = rw is.phases (phases_small s c cols at count basis good)
 
+-- it lies above neither energy by more than the slack
 pub chosen_near : (alone basis slack : ℤ) → pos 0 ≤ℤ slack →
     ((chosen alone basis slack).u ≤ℤ (basis +ℤ slack)) × ((chosen alone basis slack).u ≤ℤ (alone +ℤ slack))
 chosen_near alone basis slack some = by (int_le alone (basis +ℤ slack)) refl
@@ -222,7 +187,7 @@ chosen_near alone basis slack some = by (int_le alone (basis +ℤ slack)) refl
     by true h = (no_more h, raised alone)
     by false h = (raised basis, more h)
 
--- ---- by the test
+-- which one is chosen, by the test of a program
 pub chosen_alone : (alone basis slack : ℤ) → alone ≤ℤ (basis +ℤ slack) → ◌≡◌ {A = Chosen} (record { choice = OnePhase; u = alone }) (chosen alone basis slack)
 chosen_alone alone basis slack h = rw (test h) refl
   where

@@ -1,22 +1,21 @@
--- The grid point of a component alone.
+-- The grid points and the columns of components alone.
 use Rattle.std.proofs.Common.{◌≡◌, ℕ, zero, suc, ◌+◌, ◌^◌, ◌<◌, ◌≤◌, false, List, [], ◌∷◌, ◌++◌, length, inl, inr, slice_index, refl, ap, sym, arith, length-append}
-use Rattle.std.proofs.lemmas.List.Elements.{All-append, All-cons, All-nil}
-use Rattle.case_types.specs.declared.rounds.Column.{Column}
-use Rattle.energy_surface.specs.Columns.{IsColumn}
-use Rattle.energy_surface.specs.Lawful.{IsPureColumn}
-use Rattle.energy_surface.specs.Program.Bases.{column_at}
-use Rattle.exact_lp.proofs.Exports.{column_at-append}
-use Rattle.surface_rounds.specs.Flashing.{ArePure}
 use Rattle.std.specs.Prelude.{◌≢◌, nat_eq}
 use Rattle.std.proofs.lemmas.Bool.{cases_lt}
 use Rattle.std.proofs.lemmas.Bool.Decides.{nat_tests}
+use Rattle.std.proofs.lemmas.List.Elements.{All-append, All-cons, All-nil}
 use Rattle.log_laws.specs.Sums.{sum_below}
+use Rattle.case_types.specs.declared.rounds.Column.{Column}
 use Rattle.case_types.specs.Arithmetic.Bounds.{Box}
 use Rattle.case_types.specs.Grid.Columns.{IsGridPoint}
-use Rattle.energy_surface.specs.Lawful.{pure_composition}
+use Rattle.energy_surface.specs.Columns.{IsColumn}
+use Rattle.energy_surface.specs.Lawful.{pure_composition, IsPureColumn}
+use Rattle.energy_surface.specs.Program.Bases.{column_at}
 use Rattle.energy_surface.specs.Scans.{scan_packing}
 use Rattle.energy_surface.specs.Surfaces.{Surface}
+use Rattle.exact_lp.proofs.Exports.{column_at-append}
 use Rattle.surface_rounds.specs.declared.scans.Scanned.{Scanned}
+use Rattle.surface_rounds.specs.Flashing.{ArePure}
 use Rattle.surface_rounds.specs.Scanned.{IsScannedBelow}
 
 -- ---- a sum of one number
@@ -33,8 +32,8 @@ single (suc n) k x f h e z =
     elim (cases_lt k n) [
       | inl less ↦ rw (single n k x f less e z, z n (λ d. apart k n less (sym d))) (omega arith)
       | inr more ↦
-        let d : n ≡ k = omega (arith, h, more) in
-        rw (nothing n f (λ i l. z i (apart i k (omega (arith, l, d)))), d, e) (omega arith)
+          let d : n ≡ k = omega (arith, h, more) in
+          rw (nothing n f (λ i l. z i (apart i k (omega (arith, l, d)))), d, e) (omega arith)
     ]
 
 -- ---- the composition
@@ -91,7 +90,7 @@ pure_more s k cols col so good alone = record {
   pure = λ j h. elim (cases_lt j k) [
     | inl less ↦ rw (column_at-append cols col j (rw so.counted less)) (so.pure j less)
     | inr more ↦
-      let e : j ≡ k = omega (arith, h, more) in
-      rw (e, ← so.counted, last_column cols col) (rw so.counted alone)
+        let e : j ≡ k = omega (arith, h, more) in
+        rw (e, ← so.counted, last_column cols col) (rw so.counted alone)
   ];
 }

@@ -32,7 +32,7 @@ scan_replaced s x k best next so at up deep less = record {
   up = up;
   small = between next.up best.up deep less so.small;
   least = λ j h. elim (last_or_before j k h) [
-    inl l ↦ at_most next.up (s.up x (scan_packing j)) (through next.up best.up (s.up x (scan_packing j)) less (so.least j l))
+    | inl l ↦ at_most next.up (s.up x (scan_packing j)) (through next.up best.up (s.up x (scan_packing j)) less (so.least j l))
     | inr e ↦ no_less next.up (s.up x (scan_packing j)) (up ∙ ap (λ y. s.up x y) (at ∙ ap scan_packing (sym e)))
   ];
   first = λ j h. through next.up best.up (s.up x (scan_packing j)) less (so.least j h);
@@ -48,7 +48,7 @@ scan_kept s x k best next so at up more = record {
   up = so.up;
   small = so.small;
   least = λ j h. elim (last_or_before j k h) [
-    inl l ↦ so.least j l
+    | inl l ↦ so.least j l
     | inr e ↦ rw (ap scan_packing e, ← at, ← up) more
   ];
   first = so.first;

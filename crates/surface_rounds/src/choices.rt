@@ -110,12 +110,7 @@ pub fn feed_as_phase(case: &Case, packing: u64) -> Phase
     ensures { result ≡ feed_phase case.now packing }
 {
     Phase {
-        parts: [
-            part(case, 0),
-            part(case, 1),
-            part(case, 2),
-            part(case, 3),
-        ],
+        parts: [part(case, 0), part(case, 1), part(case, 2), part(case, 3)],
         packing,
     }
 }

@@ -13,10 +13,10 @@ loop-k-preserved g c =
     let best = c.loop-k.invariant in
     let next = c.state-next.ensures in
     elim c.if-next-best.branch [
-      then-next-best w ↦
-        rw w.best-is (scan_replaced s x c.loop-k.k c.loop-k.best c.state-next.result best next.at (next.up x mix) (next.not_deep x mix)
-        (omega (arith, ints, w.if-next-best.true, next.small, best.small)))
+      | then-next-best w ↦
+          rw w.best-is (scan_replaced s x c.loop-k.k c.loop-k.best c.state-next.result best next.at (next.up x mix) (next.not_deep x mix)
+          (omega (arith, ints, w.if-next-best.true, next.small, best.small)))
       | else-next-best w ↦
-        rw w.best-is (scan_kept s x c.loop-k.k c.loop-k.best c.state-next.result best next.at (next.up x mix)
-        (omega (arith, ints, w.if-next-best.false, next.small, best.small)))
+          rw w.best-is (scan_kept s x c.loop-k.k c.loop-k.best c.state-next.result best next.at (next.up x mix)
+          (omega (arith, ints, w.if-next-best.false, next.small, best.small)))
     ]
