@@ -13,7 +13,11 @@ use Rattle.energy_surface.specs.Program.Bases.{AreColumns}
 use Rattle.energy_surface.specs.Program.Pivots.{IsPriced, IsEntering, IsOptimal}
 use Rattle.energy_surface.specs.Program.Planes.{plane_of}
 use Rattle.energy_surface.specs.Rounds.{slack_of}
-use Rattle.surface_rounds.specs.Choices.{chosen, columns_up}
+use Rattle.energy_surface.specs.Searches.{low_of}
+use Rattle.energy_surface.specs.Surfaces.{under}
+use Rattle.box_search.specs.Found.{IsFound, IsRootOpen, units_of}
+use Rattle.surface_rounds.specs.Flashing.{IsBetweenRounds, IsAfterRounds, IsAfterRound}
+use Rattle.surface_rounds.specs.Noted.{MakesRound}
 use Rattle.surface_rounds.proofs.FlashSoFar.{CutsShort, with_pivots}
 use Rattle.surface_rounds.proofs.OnTheWay.{OnTheWay, are_columns, ups_small, few_columns, mid_room, mid_counted, after_cut, after_end, after_refuted}
 use Rattle.surface_rounds.proofs.stages.next_stage.Goals as goal
@@ -36,7 +40,7 @@ none_enters n cols at (Some j) e h = absurd (cc e)
 
 where_some : (wanted : Option ℕ) (A : Type 0) → is_some wanted ≡ true → (IsSome wanted → A) → A
 where_some None A e f = absurd (cc e)
-where_some (Some j) A e f = f tt
+where_some (Some j) A e f = f refl
 
 pub optimize-wanted-requires-clause-columns : goal.optimize-wanted-requires-clause-columns
 optimize-wanted-requires-clause-columns g c = columns g (goal.at.optimize-wanted-requires-clause-columns g c).Start
@@ -106,5 +110,53 @@ plane-plane-requires-2-clause-optimal g c =
     let good = columns g (goal.at.plane-plane-requires-2-clause-optimal g c).Start in
     λ j h. none_enters c.args.case.now.n c.args.work.now.columns.items o.new.basis.at o.result none o.ensures.priced j (omega (arith, h, good.enough))
 
+module _ (g : _) (c : After-round-found g) where
+  delta : to_z w128 (of_z w128 c.delta.result) ≡ delta_of c.args.tol
+  delta = back c.delta.result (omega (arith, ints, c.delta.ensures.positive, c.delta.ensures.small)) ∙ c.delta.ensures.value
+
+  optimal : IsOptimal c.args.case.now.n c.args.work.now.columns.items c.optimize-wanted.new.basis.at
+  optimal =
+      let o = c.optimize-wanted in
+      none_enters c.args.case.now.n c.args.work.now.columns.items o.new.basis.at o.result (sym c.is_some.ensures ∙ c.if-is_some.false) o.ensures.priced
+
+  went : MakesRound (under (g.S.Surface.bounds c.args.surface.now) c.plane-plane-2.result.lam (delta_of c.args.tol)) c.plane-plane-2.result c.choose-chosen.result.u
+      (with_pivots c.args.work.now c.optimize-wanted.new.pivots) c.round-found.new.work (c.round-found.new.units.spent - c.optimize-wanted.new.units.spent) c.round-found.result
+  went = rw (delta, back c.choose-chosen.result.u (omega (arith, c.choose-chosen.ensures.small))) at c.round-found.ensures.makes
+
+  is : IsFound (under (g.S.Surface.bounds c.args.surface.now) c.plane-plane-2.result.lam (delta_of c.args.tol)) c.round-found.new.units c.round-found.result
+  is = rw delta at c.round-found.ensures.found
+
+  root : IsRootOpen (under (g.S.Surface.bounds c.args.surface.now) c.plane-plane-2.result.lam (delta_of c.args.tol)) c.round-found.result
+  root = rw delta at c.round-found.ensures.root
+
+  later : c.optimize-wanted.new.units.spent ≤ c.round-found.new.units.spent
+  later = omega (arith, c.round-found.ensures.spent)
+
+  ended : (low : ℤ) → low_of c.round-found.result ≡ Some low →
+      IsAfterRounds (g.S.Surface.bounds c.args.surface.now) c.args.case.now c.args.tol c.round-found.new.units c.round-found.new.work c.optimize-wanted.new.basis.at c.args.alone.now.up
+      (record { chosen = c.choose-chosen.result; plane = c.plane-plane-2.result; found = c.round-found.result })
+  ended low e =
+      let o = c.optimize-wanted in
+      after_end (g.S.Surface.bounds c.args.surface.now) c.args.case.now c.args.tol c.args.alone.now c.args.units.now o.new.units c.args.work.now o.new.pivots c.args.basis.now.at o.new.basis.at
+      c.choose-chosen.result (way g (goal.at.returns-clause-after g c).After-choose-chosen) c.round-found.new.units c.round-found.new.work c.plane-plane-2.result c.round-found.result
+      optimal c.plane-plane-2.ensures went later is low e
+
+  cut_off : (kept : Column) → c.round-found.result ≡ Refuted kept →
+      IsBetweenRounds (g.S.Surface.bounds c.args.surface.now) c.args.case.now c.args.tol c.round-found.new.units c.round-found.new.work c.optimize-wanted.new.basis.at
+  cut_off kept e =
+      let o = c.optimize-wanted in
+      let more = c.round-found.ensures.more (ap units_of e) in
+      after_refuted (g.S.Surface.bounds c.args.surface.now) c.args.case.now c.args.tol c.args.alone.now c.args.units.now o.new.units c.args.work.now o.new.pivots c.args.basis.now.at o.new.basis.at
+      c.choose-chosen.result (way g (goal.at.returns-clause-after g c).After-choose-chosen) c.round-found.new.units c.round-found.new.work c.plane-plane-2.result c.round-found.result
+      optimal c.plane-plane-2.ensures went later is kept e (rw e at root) more.0 more.1
+
+  by_end : (r : Found) → c.round-found.result ≡ r →
+      IsAfterRound (g.S.Surface.bounds c.args.surface.now) c.args.case.now c.args.tol c.round-found.new.units c.round-found.new.work c.optimize-wanted.new.basis.at c.args.alone.now.up
+      (record { chosen = c.choose-chosen.result; plane = c.plane-plane-2.result; found = c.round-found.result }) r
+  by_end (AllClear low) e = ended low (ap low_of e)
+  by_end (Refuted kept) e = cut_off kept e
+  by_end (Spent low) e = ended low (ap low_of e)
+  by_end (Grain low cell) e = ended low (ap low_of e)
+
 pub returns-clause-after : goal.returns-clause-after
-returns-clause-after g c = ?
+returns-clause-after g c = by_end g c c.round-found.result refl
