@@ -7,3 +7,4 @@ pub mod Pivoting
 pub mod FlashSoFar
 pub mod FirstPlane
 pub mod OnTheWay
+pub mod Answered

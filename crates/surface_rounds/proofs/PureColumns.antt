@@ -11,12 +11,12 @@ use Rattle.case_types.specs.Grid.Columns.{IsGridPoint}
 use Rattle.energy_surface.specs.Columns.{IsColumn}
 use Rattle.energy_surface.specs.Lawful.{pure_composition, IsPureColumn}
 use Rattle.energy_surface.specs.Program.Bases.{column_at}
-use Rattle.energy_surface.specs.Scans.{scan_packing}
 use Rattle.energy_surface.specs.Surfaces.{Surface}
 use Rattle.exact_lp.proofs.Exports.{column_at-append}
 use Rattle.surface_rounds.specs.declared.scans.Scanned.{Scanned}
 use Rattle.surface_rounds.specs.Flashing.{ArePure}
 use Rattle.surface_rounds.specs.Scanned.{IsScannedBelow}
+use Rattle.surface_rounds.proofs.ScanSteps.{scan_inside}
 
 -- ---- a sum of one number
 nothing : (n : ℕ) (f : ℕ → ℕ) → ((i : ℕ) → i < n → f i ≡ 0) → sum_below n f ≡ 0
@@ -57,25 +57,13 @@ nothing_else k (suc (suc (suc (suc i)))) h = refl
 pub pure_whole : (n k : ℕ) → k < n → k < 4 → sum_below n (slice_index (pure_composition k)) ≡ 2 ^ 20
 pure_whole n k h four = single n k (2 ^ 20) (slice_index (pure_composition k)) h (alone_there k four) (nothing_else k)
 
--- ---- the packing of a scan
-not_first : (k : ℕ) → nat_eq (suc k) 0 ≡ false
-not_first k = grind (arith, nat_tests)
-
-scan_some : (k : ℕ) → 1 ≤ scan_packing k
-scan_some zero = omega arith
-scan_some (suc k) = rw (not_first k) (omega arith)
-
-scan_inside : (k : ℕ) → k < 64 → scan_packing k < 2 ^ 40
-scan_inside zero h = omega arith
-scan_inside (suc k) h = rw (not_first k) (omega (arith, h))
-
 pub pure_point : (s : Surface) (k : ℕ) (comp : List ℕ) (x : Box) (found : Scanned) → k < s.count → k < 4 → comp ≡ pure_composition k → IsScannedBelow s x 64 found →
     IsGridPoint s.count (record { composition = comp; packing = found.packing })
 pure_point s k comp x found live four e so = record {
   whole = rw e (pure_whole s.count k live four);
   rest = λ i h. rw e (nothing_else k i (λ d. absurd (omega (arith, live, h, d))));
-  not_empty = rw so.at (scan_some so.place);
-  not_full = rw so.at (scan_inside so.place so.inside);
+  not_empty = (scan_inside s x found so).0;
+  not_full = (scan_inside s x found so).1;
 }
 
 -- ---- one pure column more

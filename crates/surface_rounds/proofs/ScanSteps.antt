@@ -1,5 +1,7 @@
 -- A scan goes on by one place.
-use Rattle.std.proofs.Common.{◌≡◌, ℕ, ◌+◌, ◌^◌, ◌<◌, ◌⊎◌, inl, inr, ℤ, pos, neg_ℤ, ◌≤ℤ◌, ◌<ℤ◌, unsigned_abs, ap, sym, ◌∙◌, arith}
+use Rattle.std.proofs.Common.{◌≡◌, ℕ, zero, suc, false, ◌+◌, ◌*◌, ◌^◌, ◌<◌, ◌≤◌, ◌⊎◌, inl, inr, ℤ, pos, neg_ℤ, ◌≤ℤ◌, ◌<ℤ◌, unsigned_abs, ap, sym, ◌∙◌, arith}
+use Rattle.std.specs.Prelude.{nat_eq}
+use Rattle.std.proofs.lemmas.Bool.Decides.{nat_tests}
 use Rattle.std.proofs.lemmas.Int.{ints}
 use Rattle.case_types.specs.Arithmetic.Bounds.{Box}
 use Rattle.energy_surface.specs.Scans.{scan_packing}
@@ -53,3 +55,14 @@ scan_kept s x k best next so at up more = record {
   ];
   first = so.first;
 }
+
+-- ---- the packing fraction that it finds is one of a phase
+not_first : (k : ℕ) → nat_eq (suc k) 0 ≡ false
+not_first k = grind (arith, nat_tests)
+
+packed : (k : ℕ) → k < 64 → (1 ≤ scan_packing k) × (scan_packing k < 2 ^ 40)
+packed zero h = (omega arith, omega arith)
+packed (suc k) h = rw (not_first k) (omega arith, omega (arith, h))
+
+pub scan_inside : (s : Surface) (x : Box) (found : Scanned) → IsScannedBelow s x 64 found → (1 ≤ found.packing) × (found.packing < 2 ^ 40)
+scan_inside s x found h = rw h.at (packed h.place h.inside)

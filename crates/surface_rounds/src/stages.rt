@@ -1,9 +1,10 @@
 //! A round of a flash: pivots, the choice of a split, a plane, and the search under it.
 
-ghost use Rattle.std.specs.Prelude.{◌≡◌, ◌≤◌, ◌+◌, ◌*◌, ◌^◌, pos, ◌≤ℤ◌};
+ghost use Rattle.std.specs.Prelude.{◌≡◌, ◌≤◌, ◌+◌, ◌*◌, ◌^◌, pos, ◌≤ℤ◌, IfSome, unsigned_abs};
 ghost use Rattle.case_types.specs.Arithmetic.Bounds.{box_of_parts};
 ghost use Rattle.energy_surface.specs.Outcomes.{delta_of};
 ghost use Rattle.energy_surface.specs.Rounds.{slack_of};
+ghost use Rattle.energy_surface.specs.Searches.{low_of};
 ghost use Rattle.box_search.specs.Found.{units_of};
 ghost use Rattle.surface_rounds.specs.Flashing.{IsBetweenRounds, IsAfterRound};
 ghost use Rattle.surface_rounds.specs.Scanned.{IsScanned};
@@ -44,6 +45,8 @@ pub fn next_stage<S: Surface>(
     requires alone { IsScanned (S.bounds surface.now) (box_of_parts case.now.n case.now.z) alone.now }
     requires between { IsBetweenRounds (S.bounds surface.now) case.now tol units.old work.old basis.old.at }
     ensures after { IsAfterRound (S.bounds surface.now) case.now tol units.new work.new basis.new.at alone.now.up result result.found }
+    ensures low { IfSome (low_of result.found) (λ low. unsigned_abs low ≤ 2 ^ 107) }
+    ensures up { unsigned_abs result.chosen.u ≤ 2 ^ 109 }
     ensures budget { units.new.budget ≡ units.old.budget }
     ensures spent { units.old.spent + units_of result.found ≤ units.new.spent }
 {

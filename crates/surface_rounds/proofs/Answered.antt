@@ -1,0 +1,118 @@
+-- The answer of a flash.
+use Rattle.std.proofs.Common.{◌≡◌, ℕ, ◌+◌, ◌-◌, ◌*◌, ◌^◌, ◌<◌, ◌≤◌, List, length, Some, None, ℤ, pos, neg_ℤ, ◌-ℤ◌, ◌+ℤ◌, ◌≤ℤ◌, ◌<ℤ◌, to_z, of_z, FitsSigned, unsigned_abs, refl, sym, ap, ◌∙◌, subst, arith}
+use Rattle.std.specs.Int.{w128}
+use Rattle.std.proofs.lemmas.Int.{ints, fits_signed_from_abs}
+use Rattle.log_laws.specs.Whole.{floor_over}
+use Rattle.log_laws.proofs.Exports.{back}
+use Rattle.std.specs.Prelude.{IsSome}
+use Rattle.case_types.specs.declared.answers.Answer.{Answer}
+use Rattle.case_types.specs.declared.answers.Outcome.TheVariants as Outcomes
+use Rattle.case_types.specs.declared.answers.Work.{Work}
+use Rattle.case_types.specs.declared.cases.Case.{Case}
+use Rattle.case_types.specs.declared.phases.Split.{Split}
+use Rattle.case_types.specs.declared.rounds.Column.{Column}
+use Rattle.case_types.specs.declared.units.Units.{Units}
+use Rattle.case_types.specs.Arithmetic.Bounds.{box_of_parts, plane_at, plane_times}
+use Rattle.case_types.specs.Arithmetic.Splits.{split_up}
+use Rattle.energy_surface.specs.declared.found.Found.{Found}
+use Rattle.energy_surface.specs.declared.found.Found.TheVariants.{AllClear, Refuted, Spent, Grain}
+use Rattle.energy_surface.specs.Lawful.{IsLawful}
+use Rattle.energy_surface.specs.Outcomes.{HasCause, delta_of, outcome_of}
+use Rattle.energy_surface.specs.Rounds.{slack_of}
+use Rattle.energy_surface.specs.Searches.{low_of}
+use Rattle.energy_surface.specs.Surfaces.{Surface, under}
+use Rattle.box_search.specs.Found.{IsFound}
+use Rattle.surface_rounds.specs.declared.choices.Chosen.{Chosen}
+use Rattle.surface_rounds.specs.declared.scans.Scanned.{Scanned}
+use Rattle.surface_rounds.specs.declared.stages.Stage.{Stage}
+use Rattle.surface_rounds.specs.Answering.{IsAnswerOf}
+use Rattle.surface_rounds.specs.Choices.{chosen, columns_up, IsSplitBy}
+use Rattle.surface_rounds.specs.Flashing.{IsAfterRounds, IsAfterRound}
+use Rattle.surface_rounds.specs.Scanned.{IsScanned}
+use Rattle.surface_rounds.proofs.ChosenSplits.{split_by_divides, split_by_energy, split_by_small}
+use Rattle.surface_rounds.proofs.OnTheWay.{are_columns}
+use Rattle.surface_rounds.proofs.ScanSteps.{scan_inside}
+
+pub plane_at_feed : (c : Case) (lam : List ℤ) (sum result : ℤ) → sum ≡ plane_times c.n lam c.z → result ≡ floor_over sum c.total → result ≡ plane_at c.n lam c.z c.total
+unfolding plane_at
+plane_at_feed c lam sum result e f = rw (f, e) refl
+
+-- ---- the gap
+pub gap_fits : (u at low : ℤ) → unsigned_abs u ≤ 2 ^ 109 → unsigned_abs at ≤ 2 ^ 114 → unsigned_abs low ≤ 2 ^ 107 →
+    FitsSigned w128 (to_z w128 (of_z w128 (to_z w128 (of_z w128 u) -ℤ to_z w128 (of_z w128 at))) -ℤ to_z w128 (of_z w128 low))
+gap_fits u at low h k l = rw (back u (omega (arith, h)), back at (omega (arith, k)), back low (omega (arith, l))) (part (u -ℤ at) low (omega (arith, ints, h, k)) l)
+  where
+    part : (z low : ℤ) → unsigned_abs z ≤ 2 ^ 115 → unsigned_abs low ≤ 2 ^ 107 → FitsSigned w128 (to_z w128 (of_z w128 z) -ℤ low)
+    part z low h l = rw (back z (omega (arith, h))) (fits_signed_from_abs w128 (z -ℤ low) (omega (arith, ints, h, l)))
+
+pub gap_read : (u at low : ℤ) → unsigned_abs u ≤ 2 ^ 109 → unsigned_abs at ≤ 2 ^ 114 → unsigned_abs low ≤ 2 ^ 107 →
+    to_z w128 (of_z w128 (to_z w128 (of_z w128 (to_z w128 (of_z w128 u) -ℤ to_z w128 (of_z w128 at))) -ℤ to_z w128 (of_z w128 low))) ≡ (u -ℤ at) -ℤ low
+gap_read u at low h k l =
+    rw (back u (omega (arith, h)), back at (omega (arith, k)), back low (omega (arith, l)), back (u -ℤ at) (omega (arith, ints, h, k)))
+    (back ((u -ℤ at) -ℤ low) (omega (arith, ints, h, k, l)))
+
+-- ---- the last round
+-- a round that does not cut its plane off is the last one
+pub is_last : (s : Surface) (c : Case) (tol : ℕ) (units : Units) (w : Work) (at : List ℕ) (alone : ℤ) (stage : Stage) (found : Found) → ((kept : Column) → found ≡ Refuted kept → ⊥) →
+    IsAfterRound s c tol units w at alone stage found → IsAfterRounds s c tol units w at alone stage
+is_last s c tol units w at alone stage (AllClear low) not after = after
+is_last s c tol units w at alone stage (Refuted kept) not after = absurd (not kept refl)
+is_last s c tol units w at alone stage (Spent low) not after = after
+is_last s c tol units w at alone stage (Grain low cell) not after = after
+
+pub has_low : (found : Found) → ((kept : Column) → found ≡ Refuted kept → ⊥) → IsSome (low_of found)
+has_low (AllClear low) not = refl
+has_low (Refuted kept) not = absurd (not kept refl)
+has_low (Spent low) not = refl
+has_low (Grain low cell) not = refl
+
+-- why the flash ended
+cause_of : (s : Surface) (tol budget : ℕ) (a : Answer) (found : Found) (units : Units) → outcome_of found ≡ Some a.outcome → low_of found ≡ Some a.low →
+    IsFound (under s a.plane.lam (delta_of tol)) units found → a.units ≡ units.spent → units.budget ≡ budget → HasCause s tol budget a a.outcome
+cause_of s tol budget a (AllClear low) units o l is spent whole =
+    let ends : Outcomes.Closed ≡ a.outcome = cc in
+    let same : low ≡ a.low = cc in
+    subst (HasCause s tol budget a) ends (omega (arith, ints, same, is))
+cause_of s tol budget a (Refuted kept) units o l is spent whole = absurd (cc o)
+cause_of s tol budget a (Spent low) units o l is spent whole =
+    let ends : Outcomes.Spent ≡ a.outcome = cc in
+    let same : low ≡ a.low = cc in
+    subst (HasCause s tol budget a) ends (omega (arith, ints, same, is.0), spent ∙ is.1 ∙ whole)
+cause_of s tol budget a (Grain low cell) units o l is spent whole =
+    let ends : Outcomes.Grain cell ≡ a.outcome = cc in
+    let same : low ≡ a.low = cc in
+    subst (HasCause s tol budget a) ends (omega (arith, ints, same, is.0), is.1)
+
+-- ---- the answer
+pub lawful : (s : Surface) (c : Case) (tol budget : ℕ) (units : Units) (w : Work) (at : List ℕ) (alone : Scanned) (stage : Stage) (split : Split) (a : Answer) → s.count ≡ c.n →
+    IsScanned s (box_of_parts c.n c.z) alone → IsAfterRounds s c tol units w at alone.up stage → IsSplitBy c w.columns.items at alone.packing stage.chosen.choice split →
+    IsAnswerOf c split stage units.spent w a → units.budget ≡ budget → IsLawful s c tol budget a
+lawful s c tol budget units w at alone stage split a count scanned after by is whole =
+    let good = are_columns s c w.columns.items count after.few after.kept in
+    let packed = scan_inside s (box_of_parts c.n c.z) alone scanned in
+    let choice : stage.chosen ≡ chosen alone.up (columns_up c w.columns.items at) (slack_of tol) = after.choice in
+    let chose : IsSplitBy c w.columns.items at alone.packing (chosen alone.up (columns_up c w.columns.items at) (slack_of tol)).choice split =
+    subst (λ (x : Chosen). IsSplitBy c w.columns.items at alone.packing x.choice split) choice by in
+    let up : stage.chosen.u ≡ split_up s.count s.up split =
+    ap (λ (x : Chosen). x.u) choice
+    ∙ split_by_energy s c w.columns.items at alone.packing alone.up (slack_of tol) split count after.basis after.kept.columns (scan_up alone scanned) chose in
+    record {
+      answer = record {
+        components = count;
+        divides = rw is.split (split_by_divides c w.columns.items at alone.packing stage.chosen.choice split good after.basis packed.0 packed.1 by);
+        upper = rw is.split (is.u ∙ up);
+        gap = is.gap;
+        low = rw is.plane (after.over a.low is.low);
+        within = omega (arith, is.units, units.within, whole);
+        cause = cause_of s tol budget a stage.found units is.outcome is.low (rw is.plane after.found) is.units whole;
+      };
+      basis = at;
+      found = stage.found;
+      work = rw (is.units, is.work, is.plane, is.u) after.work;
+      outcome = is.outcome;
+      low = is.low;
+      phases = rw is.split (split_by_small s c w.columns.items at alone.packing alone.up stage.chosen.choice split count after.basis after.kept.columns (scan_up alone scanned) scanned.small by);
+    }
+  where
+    scan_up : (alone : Scanned) → IsScanned s (box_of_parts c.n c.z) alone → alone.up ≡ s.up (box_of_parts c.n c.z) alone.packing
+    scan_up alone h = h.up

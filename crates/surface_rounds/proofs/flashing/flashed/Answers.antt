@@ -1,0 +1,106 @@
+use Rattle.std.proofs.Common.{◌≡◌, ℕ, ◌+◌, ◌^◌, ◌<◌, length, Some, refl, ap, ◌∙◌, sym, subst, inl, arith}
+use Rattle.case_types.specs.Arithmetic.Bounds.{box_of_parts}
+use Rattle.energy_surface.specs.Program.Bases.{AreColumns}
+use Rattle.box_search.specs.Found.{units_of}
+use Rattle.surface_rounds.specs.Flashing.{ArePure, IsBetweenRounds, IsAfterRounds, IsAfterRound}
+use Rattle.surface_rounds.specs.Scanned.{IsScanned}
+use Rattle.surface_rounds.proofs.Answered.{is_last, has_low, lawful}
+use Rattle.surface_rounds.proofs.FlashSoFar.{flashing_begins}
+use Rattle.surface_rounds.proofs.OnTheWay.{are_columns}
+use Rattle.surface_rounds.proofs.ScanSteps.{scan_inside}
+use Rattle.surface_rounds.proofs.flashing.flashed.Goals as goal
+use Rattle.surface_rounds.proofs.flashing.flashed.Goals.{After-start-basis, In_default}
+
+-- ---- before the first round
+module _ (g : _) (c : After-start-basis g) where
+  pure : ArePure (g.S.Surface.bounds c.args.surface.now) c.args.case.now.n c.keep_pure.new.columns.items
+  pure = subst (λ n. ArePure (g.S.Surface.bounds c.args.surface.now) n c.keep_pure.new.columns.items) (sym c.requires.components) c.keep_pure.ensures.pure
+
+  columns : AreColumns c.args.case.now.n c.keep_pure.new.columns.items
+  columns =
+      are_columns (g.S.Surface.bounds c.args.surface.now) c.args.case.now c.keep_pure.new.columns.items (sym c.requires.components) (omega (arith, pure.counted, c.args.case.now.few))
+      (record { columns = pure.columns; enough = omega (arith, pure.counted); pure = pure.pure })
+
+pub loop-work-init : goal.loop-work-init
+loop-work-init g c =
+    let s = g.S.Surface.bounds c.args.surface.now in
+    let case = c.args.case.now in
+    let work = c.in_ok-work.ensures in
+    let units = c.new-units.ensures in
+    let only = pure g c in
+    let start = c.start-basis.ensures in
+    let none : length c.in_ok-work.work.pivots.items ≡ 0 = ap length work.pivots in
+    let nothing : length c.in_ok-work.work.letters.items ≡ 0 = ap length work.letters in
+    record {
+      between = record {
+        flashing = flashing_begins s case c.args.tol c.new-units.result.spent
+            (record { columns = c.keep_pure.new.columns; pivots = c.in_ok-work.work.pivots; letters = c.in_ok-work.work.letters; rounds = c.in_ok-work.work.rounds })
+            c.start-basis.result.at only work.pivots work.letters work.rounds units.spent start.places (start.basis c.keep_pure.new.columns.items (columns g c));
+        begun = inl (only.counted, start.places);
+        room = record {
+          columns = omega (arith, c.keep_pure.ensures.room, work.column, units.budget, c.requires.components, case.few);
+          pivots = omega (arith, work.room.pivots, units.budget, units.spent);
+          letters = omega (arith, work.room.letters, units.budget, units.spent);
+          rounds = omega (arith, work.room.rounds, units.budget, units.spent);
+        };
+        counted = record { columns = omega (arith, only.counted, case.few); pivots = omega (arith, none); letters = omega (arith, nothing) };
+      };
+      budget = units.budget;
+    }
+
+-- ---- a round
+pub next_stage-stage-requires-clause-between : goal.next_stage-stage-requires-clause-between
+next_stage-stage-requires-clause-between g c = c.loop-work.invariant.between
+
+pub loop-work-smaller : goal.loop-work-smaller
+loop-work-smaller g c =
+    let e = c.next_stage-stage.ensures in
+    let one : units_of c.next_stage-stage.result.found ≡ 1 = ap units_of c.in-Refuted.is in
+    omega (arith, e.spent, e.budget, one, c.next_stage-stage.new.units.within)
+
+pub loop-work-preserved : goal.loop-work-preserved
+loop-work-preserved g c =
+    let e = c.next_stage-stage.ensures in
+    record {
+      between = rw c.in-Refuted.is at e.after;
+      budget = e.budget ∙ c.loop-work.invariant.budget;
+    }
+
+-- ---- the last one
+module _ (g : _) (c : In_default g) where
+  last : IsAfterRounds (g.S.Surface.bounds c.args.surface.now) c.args.case.now c.args.tol c.next_stage-stage.new.units c.next_stage-stage.new.work c.next_stage-stage.new.basis.at c.scan-alone.result.up
+      c.next_stage-stage.result
+  last =
+      let stage = c.next_stage-stage in
+      is_last (g.S.Surface.bounds c.args.surface.now) c.args.case.now c.args.tol stage.new.units stage.new.work stage.new.basis.at c.scan-alone.result.up stage.result stage.result.found
+      c.in_default.not-Refuted stage.ensures.after
+
+  scanned : IsScanned (g.S.Surface.bounds c.args.surface.now) (box_of_parts c.args.case.now.n c.args.case.now.z) c.scan-alone.result
+  scanned = rw c.feed_box.ensures at c.scan-alone.ensures
+
+pub split_by-split-requires : goal.split_by-split-requires
+split_by-split-requires g c =
+    let s = g.S.Surface.bounds c.args.surface.now in
+    let here = (goal.at.split_by-split-requires g c).In_default in
+    let after = last g here in
+    let packed = scan_inside s (box_of_parts c.args.case.now.n c.args.case.now.z) c.scan-alone.result (scanned g here) in
+    record {
+      columns = are_columns s c.args.case.now c.next_stage-stage.new.work.columns.items (sym c.requires.components) after.few after.kept;
+      basis = after.basis;
+      some = packed.0;
+      inside = packed.1;
+    }
+
+pub answer_of-requires : goal.answer_of-requires
+answer_of-requires g c = record {
+  ends = has_low c.next_stage-stage.result.found c.in_default.not-Refuted;
+  low = c.next_stage-stage.ensures.low;
+  up = c.next_stage-stage.ensures.up;
+}
+
+pub returns-in-loop-work : goal.returns-in-loop-work
+returns-in-loop-work g c =
+    let stage = c.next_stage-stage in
+    let here = (goal.at.returns-in-loop-work g c).In_default in
+    lawful (g.S.Surface.bounds c.args.surface.now) c.args.case.now c.args.tol c.args.budget stage.new.units stage.new.work stage.new.basis.at c.scan-alone.result stage.result c.split_by-split.result
+    c.answer_of.result (sym c.requires.components) (scanned g here) (last g here) c.split_by-split.ensures c.answer_of.ensures (stage.ensures.budget ∙ c.loop-work.invariant.budget)
