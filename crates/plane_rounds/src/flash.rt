@@ -1,6 +1,6 @@
 //! The flash, and what it promises.
 
-ghost use Rattle.std.specs.Prelude.{◌≡◌, ◌≤◌, ◌*◌, ◌^◌, pos, ◌≤ℤ◌, IfOk, length};
+ghost use Rattle.std.specs.Prelude.{◌≡◌, ◌≤◌, ◌*◌, ◌^◌, pos, ◌≤ℤ◌, IfOk};
 ghost use Rattle.case_types.specs.declared.answers.Outcome.TheVariants.{Closed};
 ghost use Rattle.case_types.specs.Energy.Divisions.{Certified, division_of};
 ghost use Rattle.case_types.specs.Arithmetic.Numbers.{numbers_of};
@@ -23,7 +23,6 @@ use surface_rounds::flashed;
 ///
 /// `tol` is the tolerance in 2^-20 bit, `budget` the most units of work.
 pub fn flash_tp(alloc: Global, params: &Params, tol: u32, budget: u32) -> Result<Answer, Memory>
-    requires one { params.now.case.n ≡ 1 }
     requires tol_low { 128 ≤ tol }
     requires tol_high { tol ≤ 1048576 }
     requires budget_low { 1 ≤ budget }
@@ -32,7 +31,6 @@ pub fn flash_tp(alloc: Global, params: &Params, tol: u32, budget: u32) -> Result
         Certified p.case (enclosures_in p.case.n p.two p.e p.t p.q) (division_of a.split) a.u a.gap) }
     ensures near { IfOk result (λ a. a.outcome ≡ Closed → a.gap ≤ℤ pos (3 * tol * 2 ^ 18)) }
     ensures lawful { IfOk result (λ a. IsLawful (surface_of (numbers_of params.now.case)) params.now.case tol budget a) }
-    ensures one_phase { IfOk result (λ a. length a.split.phases.items ≡ 1) }
 {
     flashed(alloc, &PengRobinson { params }, &params.case, tol, budget)
 }

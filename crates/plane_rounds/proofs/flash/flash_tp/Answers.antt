@@ -1,4 +1,4 @@
-use Rattle.std.proofs.Common.{◌≡◌, ◌*◌, ◌^◌, ◌≤ℤ◌, pos, length, subst, sym, ap}
+use Rattle.std.proofs.Common.{◌≡◌, ◌*◌, ◌^◌, ◌≤ℤ◌, pos, subst, sym}
 use Rattle.std.proofs.lemmas.Result.{IfOk-weaker}
 use Rattle.case_types.specs.declared.answers.Answer.{Answer}
 use Rattle.case_types.specs.declared.answers.Outcome.TheVariants.{Closed}
@@ -16,9 +16,6 @@ use Rattle.plane_rounds.proofs.flash.flash_tp.Goals as goal
 pub flashed-requires-clause-components : goal.flashed-requires-clause-components
 flashed-requires-clause-components c = sym (count_of c.args.params.now.case)
 
-pub flashed-requires-clause-one : goal.flashed-requires-clause-one
-flashed-requires-clause-one c = rw (count_of c.args.params.now.case) c.requires.one
-
 pub returns-clause-certified : goal.returns-clause-certified
 returns-clause-certified c =
     let p = c.args.params.now in
@@ -32,9 +29,3 @@ returns-clause-near c =
     let case = c.args.params.now.case in
     IfOk-weaker c.flashed.result (IsLawful (surface_of (numbers_of case)) case c.args.tol c.args.budget) (λ (a : Answer). a.outcome ≡ Closed → a.gap ≤ℤ pos (3 * c.args.tol * 2 ^ 18))
     (λ a h. closed_is_near (surface_of (numbers_of case)) case c.args.tol c.args.budget a h) c.flashed.ensures
-
-pub returns-clause-one_phase : goal.returns-clause-one_phase
-returns-clause-one_phase c =
-    let case = c.args.params.now.case in
-    IfOk-weaker c.flashed.result (IsLawful (surface_of (numbers_of case)) case c.args.tol c.args.budget) (λ (a : Answer). length a.split.phases.items ≡ 1)
-    (λ a h. ap length h.split.phases) c.flashed.ensures
