@@ -8,3 +8,4 @@ pub mod Rounds
 pub mod Lawful
 pub mod WorkLaws
 pub mod Energies
+pub mod Flashes

@@ -1,10 +1,12 @@
 //! Energy surfaces, known by their bounds alone: what a search of one leaves, what makes an answer lawful, and what lows promise.
 #![tactic(auto)]
 
+mod flashes;
 mod found;
 mod laws;
 mod surfaces;
 
+pub use flashes::Flash;
 pub use found::Found;
 pub use laws::{
     closed_is_near, columns_are_kept, lows_certify, planes_fall, some_round, spent_has_worked,

@@ -1,8 +1,10 @@
 //! The flash of a Peng-Robinson mixture, and what it promises.
 #![tactic(auto)]
 
+mod case_flash;
 mod flash;
 #[cfg(test)]
 mod tests;
 
+pub use case_flash::PrFlash;
 pub use flash::flash_tp;
