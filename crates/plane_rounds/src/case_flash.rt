@@ -24,13 +24,7 @@ impl Flash for PrFlash {
     ghost bounds = { numbers_bound };
 
     fn flash(&mut self, case: &Case, tol: u32, budget: u32) -> Result<Answer, FlashFault> {
-        let params = match params(case) {
-            Ok(params) => params,
-            Err(fault) => return Err(FlashFault::Param(fault)),
-        };
-        match flash_tp(self.alloc, &params, tol, budget) {
-            Ok(answer) => Ok(answer),
-            Err(memory) => Err(FlashFault::Memory(memory)),
-        }
+        let params = params(case).map_err(FlashFault::Param)?;
+        flash_tp(self.alloc, &params, tol, budget).map_err(FlashFault::Memory)
     }
 }
