@@ -4,6 +4,8 @@
 mod case_flash;
 mod flash;
 #[cfg(test)]
+mod samples;
+#[cfg(test)]
 mod tests;
 
 pub use case_flash::PrFlash;
