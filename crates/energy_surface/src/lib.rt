@@ -1,4 +1,5 @@
-//! Energy surfaces, known by their bounds alone: what a search of one leaves, what makes an answer lawful, and what lows promise.
+//! Energy surfaces, known by their bounds alone: what a search of one leaves, what makes an answer lawful, what lows promise, and
+//! what each flash promises.
 #![tactic(auto)]
 
 mod flashes;

@@ -19,7 +19,9 @@ use surface_rounds::flashed;
 /// The answer is certified, whatever its outcome: its split is a division of the feed whose energy is at most `u`, and no
 /// division of the feed has an energy below `u - gap`, for every choice of the roots and of log2 e within the printed pairs.
 /// Where the flash closes, the gap is at most three quarters of the tolerance. The answer carries its list of work, which is
-/// lawful: each letter, round, pivot and unit has its cause.
+/// lawful: each letter, round, pivot and unit has its cause, and so has the outcome. `Closed` comes where the last search clears
+/// the whole domain, `Spent` where a unit is wanted and none is left, and `Grain` where its cell can be neither cleared nor
+/// halved and its middle doesn't cut the plane off.
 ///
 /// `tol` is the tolerance in 2^-20 bit, `budget` the most units of work.
 pub fn flash_tp(alloc: Global, params: &Params, tol: u32, budget: u32) -> Result<Answer, Memory>
