@@ -3,7 +3,7 @@
 ghost use Rattle.std.specs.Prelude.{◌≡◌, ◌≤◌, ◌<◌, ◌^◌};
 
 use super::*;
-use crate::samples::WANTED;
+use crate::samples::{Summary, WANTED};
 use arrayvec::ArrayVec;
 use case_types::{
     Answer, Case, FlashFault, Letters, Outcome, ParamFault, Phase, Row, SLOTS, Split, adds_up,
@@ -107,6 +107,22 @@ fn flashed_by<F: Flash>(
     Some(flash.flash(case, tol, budget))
 }
 
+/// What the answer says beside its list of work.
+fn summary_of(answer: &Answer) -> Summary {
+    let phases = &answer.split.phases;
+    Summary {
+        outcome: answer.outcome,
+        units: answer.units,
+        u: answer.u,
+        gap: answer.gap,
+        low: answer.low,
+        plane: answer.plane.lam,
+        sum: answer.split.sum,
+        phases: phases.len(),
+        last: phases[phases.len() - 1],
+    }
+}
+
 #[test]
 fn flashes_mixtures(rt: HostRuntime) -> Result<(), Fail> {
     let mut flash = PrFlash { alloc: rt.alloc() };
@@ -118,24 +134,11 @@ fn flashes_mixtures(rt: HostRuntime) -> Result<(), Fail> {
         ethane_to_benzene(4),
         methane_and_decane(),
     ];
-    for (case, wanted) in cases.iter().zip(&WANTED) {
-        let flashed = flashed_by(&mut flash, case, wanted.tol, wanted.budget);
-        let answer = flashed.ok_or("out of range")?.ok().ok_or("no answer")?;
-        assert_eq!(rt; answer.outcome, wanted.outcome);
-        assert_eq!(rt; answer.units, wanted.units);
-        assert_eq!(rt;
-            (answer.u, answer.gap, answer.low),
-            (wanted.u, wanted.gap, wanted.low)
-        );
-        let plane = answer.plane.lam;
-        assert_eq!(rt; plane, wanted.plane);
+    for (case, (tol, budget, wanted)) in cases.iter().zip(&WANTED) {
+        let flashed = flashed_by(&mut flash, case, *tol, *budget).ok_or("out of range")?;
+        let answer = flashed.ok().ok_or("no answer")?;
+        assert_eq!(rt; summary_of(&answer), *wanted);
         assert!(rt; adds_up(case, &answer.split));
-        assert_eq!(rt; answer.split.sum, wanted.sum);
-        assert_eq!(rt; answer.split.phases.len(), wanted.phases);
-        let last = answer.split.phases.last().ok_or("no phase")?;
-        let parts = last.parts;
-        assert_eq!(rt; parts, wanted.parts);
-        assert_eq!(rt; last.packing, wanted.packing);
     }
     Ok(())
 }
