@@ -17,8 +17,7 @@ usage: flash_main tp T=<K> P=<Pa> z=<parts> names=<names> tol=<n> budget=<n>
 
 Flashes a feed at a temperature and a pressure by the equation of Peng and Robinson,
 and prints its phases, an upper bound of their energy, and a gap: no division of the
-feed into phases has an energy that is lower by more than the gap. This version takes
-feeds of which one component has a part.
+feed into phases has an energy that is lower by more than the gap.
 
 Words, in any order and each of them once; only kappa may be left out:
   T=300.15         temperature in K, 50 to 1500, with up to 3 places
@@ -50,7 +49,6 @@ being word 1; <wrong> is Empty, Sign, Digit, Places or TooLarge.
                   Range <record> <field>; Number <record> <field> <wrong>
   refused case    NoName <name>; BRange; BRatio; MRange <component>;
                   ARange <component> <component>
-  refused unbuilt more than one component has a part of the feed (status 3)
   refused read    standard input couldn't be read (status 6)
   refused long    the table has more than 4194304 bytes (status 11)
 ";

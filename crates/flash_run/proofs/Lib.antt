@@ -1,4 +1,4 @@
 pub mod Regroup
 pub mod Phases
-pub mod OneComponent
+pub mod Components
 pub mod Takes

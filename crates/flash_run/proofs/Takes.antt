@@ -5,7 +5,7 @@ use Rattle.std.specs.declared.option.Option.TheVariants.{None, Some}
 use Rattle.io_edge.specs.Bytes.{ahead}
 use Rattle.io_edge.specs.Reading.{TakesAtMost}
 use Rattle.flash_run.specs.declared.ends.End.{End}
-use Rattle.flash_run.specs.declared.ends.End.TheVariants.{Words, Read, TooLong, Table, Case, Unbuilt, Flash, Memory}
+use Rattle.flash_run.specs.declared.ends.End.TheVariants.{Words, Read, TooLong, Table, Case, Flash, Memory}
 use Rattle.flash_run.specs.Headline.{table_limit}
 use Rattle.flash_run.specs.Ends.{Takes, TakesWhole}
 
@@ -29,6 +29,5 @@ takes_at_most Read left left' t = more table_limit (table_limit + 1) left left' 
 takes_at_most TooLong left left' t = record { bytes = t.bytes; short = (let s = t.counted in omega (arith, s)); taken = t.taken }
 takes_at_most (Table fault) left left' t = whole (table_limit + 1) left left' (omega arith) t
 takes_at_most (Case fault) left left' t = whole (table_limit + 1) left left' (omega arith) t
-takes_at_most Unbuilt left left' t = whole (table_limit + 1) left left' (omega arith) t
 takes_at_most (Flash params picked tol answer) left left' t = whole (table_limit + 1) left left' (omega arith) t
 takes_at_most Memory left left' t = t

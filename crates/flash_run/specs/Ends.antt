@@ -1,7 +1,6 @@
 -- What an end says of its status, of its cause and of the source.
-use Rattle.std.specs.Prelude.{◌≡◌, ⊤, ℕ, ◌+◌, ◌<◌, ◌⊎◌, List, length, Ok, Err, Some, None}
+use Rattle.std.specs.Prelude.{◌≡◌, ⊤, ℕ, ◌+◌, ◌⊎◌, List, Ok, Err, Some}
 use Rattle.std.specs.declared.option.Option.{Option}
-use Rattle.case_types.specs.declared.answers.Answer.{Answer}
 use Rattle.case_types.specs.declared.answers.Outcome.{Outcome}
 use Rattle.case_types.specs.declared.answers.Outcome.TheVariants.{Closed, Spent, Grain}
 use Rattle.case_types.specs.declared.cases.ParamFault.{ParamFault}
@@ -15,12 +14,11 @@ use Rattle.component_table.specs.CsvText.{records_of}
 use Rattle.component_table.specs.Picking.{Refuses}
 use Rattle.component_table.specs.Tables.{Held, table_of}
 use Rattle.energy_surface.specs.Lawful.{IsLawful}
-use Rattle.pr_params.specs.declared.numbers.Params.{Params}
 use Rattle.pr_surface.specs.PengRobinson.{surface_of}
 use Rattle.io_edge.specs.Causes.{CountsFault}
 use Rattle.io_edge.specs.Reading.{TakesAtMost, TakesExactly}
 use Rattle.flash_run.specs.declared.ends.End.{End}
-use Rattle.flash_run.specs.declared.ends.End.TheVariants.{Words, Read, TooLong, Table, Case, Unbuilt, Flash, Memory}
+use Rattle.flash_run.specs.declared.ends.End.TheVariants.{Words, Read, TooLong, Table, Case, Flash, Memory}
 use Rattle.flash_run.specs.Headline.{table_limit, IsAll, IsCase}
 
 -- ---- the status
@@ -37,21 +35,8 @@ status_of Read = 6
 status_of TooLong = 11
 status_of (Table fault) = 3
 status_of (Case fault) = 4
-status_of Unbuilt = 3
 status_of (Flash params picked tol answer) = status_of_outcome answer.outcome
 status_of Memory = 8
-
--- ---- the report
--- the case of a flash has one component
-abbrev pub IsReportable : End → Type 0
-IsReportable (Words fault) = ⊤
-IsReportable Read = ⊤
-IsReportable TooLong = ⊤
-IsReportable (Table fault) = ⊤
-IsReportable (Case fault) = ⊤
-IsReportable Unbuilt = ⊤
-IsReportable (Flash params picked tol answer) = params.case.n ≡ 1
-IsReportable Memory = ⊤
 
 -- ---- the source
 -- one fault of the source was counted at Read, and none where words, table or case were judged
@@ -61,7 +46,6 @@ CountsRead Read faults faults' = CountsFault faults faults'
 CountsRead TooLong faults faults' = faults' ≡ faults
 CountsRead (Table fault) faults faults' = faults' ≡ faults
 CountsRead (Case fault) faults faults' = faults' ≡ faults
-CountsRead Unbuilt faults faults' = faults' ≡ faults
 CountsRead (Flash params picked tol answer) faults faults' = faults' ≡ faults
 CountsRead Memory faults faults' = (faults' ≡ faults) ⊎ CountsFault faults faults'
 
@@ -77,7 +61,6 @@ Takes Read left left' = TakesAtMost table_limit left left'
 Takes TooLong left left' = TakesExactly (table_limit + 1) left left'
 Takes (Table fault) left left' = TakesWhole left left'
 Takes (Case fault) left left' = TakesWhole left left'
-Takes Unbuilt left left' = TakesWhole left left'
 Takes (Flash params picked tol answer) left left' = TakesWhole left left'
 Takes Memory left left' = TakesAtMost (table_limit + 1) left left'
 
@@ -96,19 +79,6 @@ pub record IsRefusedRange (asked : Asked) (bytes : List ℕ) (fault : CaseFault)
   pub is : fault ≡ Param range
   pub refused : fault_of picked.case ≡ Some range
 
--- no range is broken, and more than one component has a part of the feed
-pub record IsUnbuilt (asked : Asked) (bytes : List ℕ) : Type 0 where
-  pub picked : Picked
-  pub case_is : IsCase asked bytes picked
-  pub accepted : fault_of picked.case ≡ None
-  pub more : 1 < picked.case.n
-
--- a flash of one live component into one phase, whose list of work is lawful at the tolerance and the budget that are asked
-pub record IsLawfulFlash (asked : Asked) (p : Params) (a : Answer) : Type 0 where
-  pub one : p.case.n ≡ 1
-  pub one_phase : length a.split.phases.items ≡ 1
-  pub lawful : IsLawful (surface_of (numbers_of p.case)) p.case asked.tol asked.budget a
-
 -- what comes of what is asked and of the bytes of a table; want of memory has no cause here
 abbrev pub Judges : Asked → List ℕ → End → Type 0
 Judges asked bytes (Words fault) = ⊥
@@ -116,8 +86,8 @@ Judges asked bytes Read = ⊥
 Judges asked bytes TooLong = ⊥
 Judges asked bytes (Table fault) = table_of (records_of bytes) ≡ Err fault
 Judges asked bytes (Case fault) = IsRefusedName asked bytes fault ⊎ IsRefusedRange asked bytes fault
-Judges asked bytes Unbuilt = IsUnbuilt asked bytes
-Judges asked bytes (Flash params picked tol answer) = IsLawfulFlash asked params answer
+Judges asked bytes (Flash params picked tol answer) =
+    IsLawful (surface_of (numbers_of params.case)) params.case asked.tol asked.budget answer
 Judges asked bytes Memory = ⊤
 
 -- the words ask for a flash
@@ -140,6 +110,5 @@ Comes words left left' Read = Asks words
 Comes words left left' TooLong = Asks words
 Comes words left left' (Table fault) = IsJudged words left left' (Table fault)
 Comes words left left' (Case fault) = IsJudged words left left' (Case fault)
-Comes words left left' Unbuilt = IsJudged words left left' Unbuilt
 Comes words left left' (Flash params picked tol answer) = IsJudged words left left' (Flash params picked tol answer)
 Comes words left left' Memory = ⊤

@@ -5,6 +5,7 @@ use Rattle.std.specs.Fmt.{decimal, signed_decimal}
 use Rattle.case_types.specs.declared.cases.Case.{Case}
 use Rattle.case_types.specs.declared.cases.Row.{Row}
 use Rattle.case_types.specs.declared.phases.Phase.{Phase}
+use Rattle.case_types.specs.declared.planes.Plane.{Plane}
 use Rattle.case_types.specs.declared.answers.Answer.{Answer}
 use Rattle.case_types.specs.declared.answers.Outcome.{Outcome}
 use Rattle.case_types.specs.declared.answers.Outcome.TheVariants.{Closed, Spent, Grain}
@@ -66,10 +67,13 @@ abbrev pub split_text : Picked → ℕ → List Phase → List ℕ
 split_text picked sum phases =
     codes "sum=" ++ decimal sum ++ line (codes " phases=") (decimal (length phases)) ++ phases_text picked 1 phases
 
+-- the potential of a component
+abbrev pub potential_text : Plane → ℕ → List ℕ
+potential_text plane i = codes " " ++ signed_decimal (slice_index_or plane.lam i (pos 0))
+
 -- the potentials of the plane
 abbrev pub plane_text : Case → Answer → List ℕ
-plane_text c a =
-    line (codes "plane") (texts_below c.n (λ i. codes " " ++ signed_decimal (slice_index_or a.plane.lam i (pos 0))))
+plane_text c a = line (codes "plane") (texts_below c.n (potential_text a.plane))
 
 -- the printed pair of a component
 abbrev pub temperature_text : Case → Enclosures → ℕ → List ℕ
@@ -81,12 +85,16 @@ pressure_text c x i j =
     codes "q " ++ name_text c i ++ codes " " ++ name_text c j
     ++ ends_line (codes " ") (ends_at x.pressure_roots (pair_place i j))
 
+-- the printed pairs of a component with each later one
+abbrev pub pressures_text : Case → Enclosures → ℕ → List ℕ
+pressures_text c x i = texts_below c.n (λ j. cond (nat_lt i j) (pressure_text c x i j) [])
+
 -- the printed pairs, those of two components in the order 01, 02, 03, 12, 13, 23
 abbrev pub enclosures_text : Case → Enclosures → List ℕ
 enclosures_text c x =
     ends_line (codes "two ") x.root_two ++ ends_line (codes "e ") x.log_e
     ++ texts_below c.n (temperature_text c x)
-    ++ texts_below c.n (λ i. texts_below c.n (λ j. cond (nat_lt i j) (pressure_text c x i j) []))
+    ++ texts_below c.n (pressures_text c x)
 
 -- the whole report of a flash
 abbrev pub flash_text : Params → Picked → ℕ → Answer → List ℕ
@@ -107,6 +115,5 @@ report_text end.Read = codes "refused read\n"
 report_text end.TooLong = codes "refused long\n"
 report_text (end.Table fault) = line (codes "refused table ") (table_fault_text fault)
 report_text (end.Case fault) = line (codes "refused case ") (case_fault_text fault)
-report_text end.Unbuilt = codes "refused unbuilt\n"
 report_text (end.Flash params picked tol answer) = flash_text params picked tol answer
 report_text end.Memory = []

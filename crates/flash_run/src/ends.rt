@@ -20,8 +20,6 @@ pub enum End {
     Table(TableFault),
     /// The first name without a component, or the range that the parameters break first.
     Case(CaseFault),
-    /// Words, table and case are accepted, and more than one component has a part of the feed: this version can't flash that.
-    Unbuilt,
     /// The numbers of the case, its names, the tolerance and the answer of its flash.
     Flash(Params, Picked, u32, Answer),
     /// Memory was wanting: nothing is printed.
@@ -37,7 +35,7 @@ impl End {
     {
         match self {
             End::Words(_) => 2,
-            End::Table(_) | End::Unbuilt => 3,
+            End::Table(_) => 3,
             End::Case(_) => 4,
             End::Read => 6,
             End::Memory => 8,

@@ -4,8 +4,11 @@
 //! status and with what it printed, an [`End`].
 #![tactic(auto)]
 
+mod enclosures;
 mod ends;
 mod refusals;
+#[cfg(test)]
+mod report_tests;
 mod reports;
 #[cfg(test)]
 mod tests;

@@ -1,17 +1,14 @@
 //! The report.
 
 ghost use Rattle.std.specs.Prelude.{◌≡◌, ◌<◌, ◌≤◌, OnOk, IfOk, length};
-ghost use Rattle.case_types.specs.Energy.Printed.{enclosures_in};
-ghost use Rattle.flash_run.specs.Ends.{IsReportable};
 ghost use Rattle.flash_run.specs.Pieces.{Adds, texts_below};
-ghost use Rattle.flash_run.specs.ReportText.{report_text, flash_text, conditions_text, split_text, phases_text, phase_text, part_text, part_of, plane_text, enclosures_text};
+ghost use Rattle.flash_run.specs.ReportText.{report_text, flash_text, conditions_text, split_text, phases_text, phase_text, part_text, part_of, plane_text, potential_text};
 
+use crate::enclosures::put_enclosures;
 use crate::ends::End;
 use crate::refusals::{put_case_fault, put_table_fault, put_word_fault};
-use crate::texts::{
-    head_of, label_of, put_ends, put_line, put_name, put_number, put_text, put_thousandths,
-};
-use case_types::{Answer, Case, Phase, SLOTS, Split};
+use crate::texts::{head_of, label_of, put_line, put_name, put_number, put_text, put_thousandths};
+use case_types::{Answer, Case, Phase, Plane, SLOTS, Split};
 use component_table::Picked;
 use pr_params::Params;
 use std::alloc::{AllocError, Global};
@@ -22,7 +19,6 @@ use std::alloc::{AllocError, Global};
 ///
 /// Memory is wanting.
 pub fn report(alloc: Global, end: &End) -> Result<Vec<u8>, AllocError>
-    requires { IsReportable end.now }
     ensures { IfOk result (λ v. v.items ≡ report_text end.now) }
 {
     let mut out = Vec::new(alloc);
@@ -44,7 +40,6 @@ pub fn report(alloc: Global, end: &End) -> Result<Vec<u8>, AllocError>
             put_case_fault(&mut out, *fault)?;
             put_text(&mut out, "\n")?;
         }
-        End::Unbuilt => put_text(&mut out, "refused unbuilt\n")?,
         End::Flash(params, picked, tol, answer) => {
             put_flash(&mut out, params, picked, *tol, answer)?
         }
@@ -61,7 +56,6 @@ fn put_flash(
     tol: u32,
     answer: &Answer,
 ) -> Result<(), AllocError>
-    requires { params.now.case.n ≡ 1 }
     ensures { OnOk result (Adds out.old.items out.new.items (flash_text params.now picked.now tol answer.now)) }
 {
     put_line(out, head_of(&answer.outcome), answer.units)?;
@@ -167,23 +161,22 @@ fn part_of(live: &[u8], parts: &[u128; SLOTS], i: usize) -> u128
 
 /// Appends the plane.
 fn put_plane(out: &mut Vec<u8>, case: &Case, answer: &Answer) -> Result<(), AllocError>
-    requires { case.now.n ≡ 1 }
     ensures { OnOk result (Adds out.old.items out.new.items (plane_text case.now answer.now)) }
 {
-    put_line(out, "plane ", answer.plane.lam[0])?;
+    put_text(out, "plane")?;
+    put_potentials(out, case.n, &answer.plane)?;
+    put_text(out, "\n")?;
     Ok(())
 }
 
-/// Appends the pairs of ends.
-fn put_enclosures(out: &mut Vec<u8>, params: &Params) -> Result<(), AllocError>
-    requires { params.now.case.n ≡ 1 }
-    ensures { OnOk result (Adds out.old.items out.new.items (let p = params.now in
-        enclosures_text p.case (enclosures_in p.case.n p.two p.e p.t p.q))) }
+/// Appends the potentials of the first n components.
+fn put_potentials(out: &mut Vec<u8>, n: u8, plane: &Plane) -> Result<(), AllocError>
+    requires { n ≤ 4 }
+    ensures { OnOk result (Adds out.old.items out.new.items (texts_below n (potential_text plane.now))) }
 {
-    put_ends(out, "two ", params.two)?;
-    put_ends(out, "e ", params.e)?;
-    put_text(out, "t ")?;
-    put_name(out, &params.case.rows[0].name)?;
-    put_ends(out, " ", params.t[0])?;
+    for i in 0..n as usize {
+        put_text(out, " ")?;
+        put_number(out, plane.lam[i])?;
+    }
     Ok(())
 }

@@ -22,7 +22,7 @@ const GASES: &str = "comp,methane,190.564,4599200,0.0114,\n\
     cp,methane,19.25,52.13,11.97,-11.32\n";
 
 /// The words of a text, with a blank between each two.
-fn words_of(alloc: Global, text: &str) -> Result<Vec<Word>, AllocError> {
+pub fn words_of(alloc: Global, text: &str) -> Result<Vec<Word>, AllocError> {
     let mut words = Vec::new(alloc);
     for part in text.as_bytes().split(|b| *b == b' ') {
         if !part.is_empty() {
@@ -51,7 +51,7 @@ fn run_in_pieces(
 }
 
 /// Words, a table, the status and the report of their run.
-const REFUSED: [(&str, &str, u8, &str); 34] = [
+const REFUSED: [(&str, &str, u8, &str); 33] = [
     // Words.
     ("", "", 2, "refused words NoCommand\n"),
     ("pt T=300", "", 2, "refused words NoCommand\n"),
@@ -160,13 +160,6 @@ const REFUSED: [(&str, &str, u8, &str); 34] = [
         "comp,a,300,1000000,0,\ncomp,b,300,1000000,1.5,\n",
         4,
         "refused case MRange 2\n",
-    ),
-    // More than one live component.
-    (
-        "tp T=300 P=1000000 z=1,1 names=methane,decane tol=1024 budget=10",
-        GASES,
-        3,
-        "refused unbuilt\n",
     ),
     // The first of several faults.
     ("tp T=5x P=0", "mix\n", 2, "refused words Value 2 Digit\n"),

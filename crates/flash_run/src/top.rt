@@ -5,7 +5,7 @@ ghost use Rattle.case_words.specs.Views.{asked_by};
 ghost use Rattle.io_edge.specs.Causes.{CountsFault};
 ghost use Rattle.io_edge.specs.Writing.{WritesAll, WritesSome};
 ghost use Rattle.flash_run.specs.ReportText.{report_text};
-ghost use Rattle.flash_run.specs.Ends.{status_of, IsReportable, CountsRead, Takes, Judges, Comes};
+ghost use Rattle.flash_run.specs.Ends.{status_of, CountsRead, Takes, Judges, Comes};
 ghost use Rattle.flash_run.specs.Headline.{Certifies, Answers};
 
 use crate::ends::{End, RunEnd};
@@ -79,7 +79,6 @@ fn work<S: Source>(alloc: Global, words: &Vec<Word>, source: &mut S) -> End
     ensures last_take { result ≡ End.Read → S.failed source.new ≡ true }
     ensures last_fault { S.faults source.new ≢ S.faults source.old → S.failed source.new ≡ true }
     ensures cause { Comes words.now.items (S.left source.old) (S.left source.new) result }
-    ensures reportable { IsReportable result }
 {
     let job = match read_words(words) {
         Ok(Job::Tp(job)) => job,
@@ -113,9 +112,6 @@ fn judge(alloc: Global, job: &FlashWords, bytes: &[u8]) -> End
         Ok(params) => params,
         Err(fault) => return End::Case(CaseFault::Param(fault)),
     };
-    if picked.case.n != 1 {
-        return End::Unbuilt;
-    }
     match flash_tp(alloc, &params, job.tol, job.budget) {
         Ok(answer) => End::Flash(params, picked, job.tol, answer),
         Err(_) => End::Memory,
