@@ -221,9 +221,11 @@ fn flashes_words_in_any_order_and_spelling(rt: HostRuntime) -> Result<(), Fail> 
     Ok(())
 }
 
-/// The report of methane at 150 K and 10000 Pa before the names of its phase, and after them.
-const BEFORE_NAMES: &str = "closed units=88\nT=150.000 P=10000 tol=262144\nenergy=1595866482747\n\
-    gap=109724931857\nsum=1 phases=1\nphase 1 vapour packing=268435456\n";
+/// The report of methane at 150 K and 10000 Pa before its sum, then before the names of its phase, and after them.
+const BEFORE_SUM: &str = "closed units=70\nT=150.000 P=10000 tol=262144\nenergy=1595866482747\n\
+    gap=109724931857\n";
+
+const BEFORE_NAMES: &str = " phases=1\nphase 1 vapour packing=268435456\n";
 
 const AFTER_NAMES: &str = "plane 1595866483712\nlow=-109724932822\n\
     two 1630477228166597776 1630477228166597777\ne 1586259924992 1586260020565\n\
@@ -232,30 +234,36 @@ const AFTER_NAMES: &str = "plane 1595866483712\nlow=-109724932822\n\
 #[test]
 fn prints_names_without_a_part(rt: HostRuntime) -> Result<(), Fail> {
     let alloc = rt.alloc();
-    // Words, and the parts of the names.
-    let cases: [(&str, &str); 4] = [
+    // Words, the sum, and the parts of the names.
+    let cases: [(&str, &str, &str); 4] = [
         (
             "tp z=1 names=methane T=150 P=10000 tol=262144 budget=500000",
-            "part methane 1\n",
+            "sum=1048576",
+            "part methane 1048576\n",
         ),
         (
             "tp z=1,0 names=methane,decane T=150 P=10000 tol=262144 budget=500000",
-            "part methane 1\npart decane 0\n",
+            "sum=1048576",
+            "part methane 1048576\npart decane 0\n",
         ),
         (
             "tp z=0,1 names=decane,methane T=150 P=10000 tol=262144 budget=500000",
-            "part decane 0\npart methane 1\n",
+            "sum=1048576",
+            "part decane 0\npart methane 1048576\n",
         ),
         (
             "tp z=0,7,0 names=decane,methane,propane T=150 P=10000 tol=262144 budget=500000",
-            "part decane 0\npart methane 1\npart propane 0\n",
+            "sum=7340032",
+            "part decane 0\npart methane 7340032\npart propane 0\n",
         ),
     ];
-    for (words, parts) in cases {
+    for (words, sum, parts) in cases {
         let table = GASES.as_bytes().to_vec(alloc)?;
         let (status, sink) = run_in_pieces(alloc, words, table, 4096, &[], &[])?;
         assert_eq!(rt; status, 0, "{words}");
         let mut want = Vec::new(alloc);
+        want.extend_from_slice(BEFORE_SUM.as_bytes())?;
+        want.extend_from_slice(sum.as_bytes())?;
         want.extend_from_slice(BEFORE_NAMES.as_bytes())?;
         want.extend_from_slice(parts.as_bytes())?;
         want.extend_from_slice(AFTER_NAMES.as_bytes())?;
@@ -265,8 +273,8 @@ fn prints_names_without_a_part(rt: HostRuntime) -> Result<(), Fail> {
 }
 
 /// The report of methane at 150 K and 10000 Pa at a finer tolerance, as an independent program prints it.
-const DILUTE: &str = "closed units=111\nT=150.000 P=10000 tol=1024\nenergy=1583869078620\n\
-    gap=471014896\nsum=1 phases=1\nphase 1 vapour packing=234881024\npart methane 1\n\
+const DILUTE: &str = "closed units=93\nT=150.000 P=10000 tol=1024\nenergy=1583869078620\n\
+    gap=471014896\nsum=1048576 phases=1\nphase 1 vapour packing=234881024\npart methane 1048576\n\
     plane 1583869079552\nlow=-471015828\n\
     two 1630477228166597776 1630477228166597777\ne 1586259924992 1586260020565\n\
     t methane 249726707501365 249726707501366\n";
@@ -289,7 +297,7 @@ fn flashes_near_saturation(rt: HostRuntime) -> Result<(), Fail> {
     let table = GASES.as_bytes().to_vec(alloc)?;
     let (status, sink) = run_in_pieces(alloc, words, table, 4096, &[], &[])?;
     assert_eq!(rt; status, 0);
-    assert!(rt; sink.held().starts_with(b"closed units=87\n"));
+    assert!(rt; sink.held().starts_with(b"closed units=81\n"));
     Ok(())
 }
 
