@@ -1,5 +1,7 @@
 //! Reports of mixtures, from answers that an independent program printed.
 
+ghost use Rattle.std.specs.Prelude.{◌≤◌, length};
+
 use crate::ends::End;
 use crate::reports::report;
 use crate::tests::words_of;
@@ -24,7 +26,9 @@ fn no_work(alloc: Global) -> Work {
 }
 
 /// The report of words and a table with this answer.
-fn report_of(alloc: Global, words: &str, table: &str, answer: Answer) -> Result<Vec<u8>, Fail> {
+fn report_of(alloc: Global, words: &str, table: &str, answer: Answer) -> Result<Vec<u8>, Fail>
+    requires { length table.now ≤ 4194304 }
+{
     let words = words_of(alloc, words)?;
     let Job::Tp(job) = read_words(&words).ok().ok_or("words")?;
     let table = read_table(alloc, table.as_bytes()).ok().ok_or("table")?;
