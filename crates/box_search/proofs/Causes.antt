@@ -1,5 +1,5 @@
 -- Why a cell has its letter, and why a search ends at it.
-use Rattle.std.proofs.Common.{◌≡◌, ℕ, ◌+◌, ◌/◌, ◌^◌, ◌≤◌, ◌<◌, ◌-◌, ◌⊎◌, inl, inr, refl, ◌||◌, nat_lt, ◌==◌, Bool, true, false, if◌then◌else◌, Some, None, ℤ, neg_ℤ, ◌<ℤ◌, unsigned_abs, IsTrue, IsFalse, ap, arith, to_z, of_z, ◌-ℤ◌}
+use Rattle.std.proofs.Common.{◌≡◌, ℕ, ◌+◌, ◌/◌, ◌^◌, ◌≤◌, ◌<◌, ◌-◌, ◌⊎◌, inl, inr, refl, ◌||◌, nat_lt, ◌==◌, Bool, true, false, if◌then◌else◌, Some, None, ℤ, neg_ℤ, ◌<ℤ◌, unsigned_abs, IsTrue, IsFalse, arith, to_z, of_z, ◌-ℤ◌}
 use Rattle.std.specs.Int.{w128}
 use Rattle.std.proofs.lemmas.Bool.{cases_lt}
 use Rattle.std.proofs.lemmas.Int.{ints}

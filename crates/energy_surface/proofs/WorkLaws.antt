@@ -1,5 +1,5 @@
 -- Proofs of the laws of lawful answers.
-use Rattle.std.proofs.Common.{◌≡◌, ℕ, zero, suc, ◌+◌, ◌*◌, ◌^◌, ◌<◌, List, [], ◌∷◌, ◌++◌, length, take, Some, None, get_or, cond, ℤ, pos, neg_ℤ, ◌+ℤ◌, ◌-ℤ◌, ◌≤ℤ◌, ◌<ℤ◌, subst, refl, sym, ap, ◌∙◌, inl, inr, arith, length-append}
+use Rattle.std.proofs.Common.{◌≡◌, ℕ, ◌+◌, ◌*◌, ◌^◌, ◌<◌, List, [], ◌∷◌, ◌++◌, length, take, Some, get_or, cond, ℤ, pos, neg_ℤ, ◌+ℤ◌, ◌-ℤ◌, ◌≤ℤ◌, ◌<ℤ◌, subst, refl, sym, ap, ◌∙◌, inl, inr, arith, length-append}
 use Rattle.std.specs.Prelude.{slice_get}
 use Rattle.std.proofs.lemmas.Int.{ints}
 use Rattle.std.proofs.lemmas.List.{length-take, get_or-take}
@@ -10,7 +10,6 @@ use Rattle.case_types.specs.declared.answers.Outcome.{Outcome}
 use Rattle.case_types.specs.declared.answers.Outcome.TheVariants as Outcomes
 use Rattle.case_types.specs.declared.answers.Work.{Work}
 use Rattle.case_types.specs.declared.cases.Case.{Case}
-use Rattle.case_types.specs.declared.pivots.Pivot.{Pivot}
 use Rattle.case_types.specs.declared.rounds.Column.{Column}
 use Rattle.case_types.specs.declared.rounds.Round.{Round}
 use Rattle.case_types.specs.Arithmetic.Bounds.{plane_at}
@@ -21,7 +20,7 @@ use Rattle.energy_surface.specs.Lawful.{IsLawful, beginning}
 use Rattle.energy_surface.specs.Outcomes.{HasCause, delta_of, outcome_of}
 use Rattle.energy_surface.specs.Rounds.{Start, Own, own_of, round_end, quarter_of, IsSearchedRound, IsRound, AreRefuted, after}
 use Rattle.energy_surface.specs.Surfaces.{Surface, under}
-use Rattle.energy_surface.specs.WorkLaws.{is_refuted, refutations, SomeRound, UnitsAreWork, SpentHasWorked, ColumnsAreKept, IsLower, HasPurePlane, FallsAfter, Falls, PlanesFall, ClosedIsNear}
+use Rattle.energy_surface.specs.WorkLaws.{is_refuted, refutations, SomeRound, UnitsAreWork, SpentHasWorked, ColumnsAreKept, IsLower, HasPurePlane, AreLower, Falls, PlanesFall, ClosedIsNear}
 use Rattle.energy_surface.proofs.Walks.{cuts_off}
 
 -- ---- counts
@@ -83,45 +82,50 @@ falls_below : (tol : ℕ) (up at before : ℤ) → at ≤ℤ (up +ℤ quarter_of
 falls_below tol up at before h k = omega (arith, ints, h, k)
 
 lower : (surface : Surface) (c : Case) (tol : ℕ) (w : Work) (s t : Start) (before r : Round) (basis other : List ℕ) (kept : Column) (found : Found) →
-    IsRound surface c tol s (own_of w s before) before basis (Refuted kept) → slice_get w.columns.items before.columns ≡ Some kept → r.columns ≡ before.columns + 1 →
+    IsRound surface c tol s (own_of w s before) before basis (Refuted kept) → slice_get w.columns.items before.columns ≡ Some kept → before.columns < r.columns →
     IsSearchedRound surface c tol (own_of w t r) other r found → IsLower surface.count w before r
-lower surface c tol w s t before r basis other kept found h at next n =
+lower surface c tol w s t before r basis other kept found h at later n =
     let k = searched_there surface c tol s (own_of w s before) before basis kept h in
     let cut = cuts_off (under surface before.plane.lam (delta_of tol)) kept k.searched.left k.searched.ends in
     let there : before.columns < length w.columns.items = slice_get_within w.columns.items before.columns kept at in
-    let place : before.columns < length (take r.columns w.columns.items) = rw length-take (omega (arith, there, next)) in
+    let place : before.columns < length (take r.columns w.columns.items) = rw length-take (omega (arith, there, later)) in
     let same : get_or (take r.columns w.columns.items) before.columns kept ≡ kept =
-    get_or-take r.columns w.columns.items before.columns kept (omega (arith, next)) ∙ get_or_from_slice_get w.columns.items before.columns kept kept at in
+    get_or-take r.columns w.columns.items before.columns kept later ∙ get_or_from_slice_get w.columns.items before.columns kept kept at in
     let over = rw same at (n.fair.no_deeper before.columns kept place) in (
       kept,
       at,
       falls_below tol kept.up (plane_at_point surface.count r.plane.lam (point_of kept)) (plane_at_point surface.count before.plane.lam (point_of kept)) over (rw cut.0.up cut.1.below),
     )
 
--- from a plane that is cut off on
-falls_after : (surface : Surface) (c : Case) (tol : ℕ) (w : Work) (before last : Round) (s start : Start) (basis other : List ℕ) (kept : Column) (found : Found) (rs : List Round) → surface.count ≡ c.n →
-    IsRound surface c tol s (own_of w s before) before basis (Refuted kept) → slice_get w.columns.items before.columns ≡ Some kept →
-    AreRefuted surface c tol w (after before basis) rs start → IsRound surface c tol start (own_of w start last) last other found → FallsAfter surface.count w before (rs ++ last ∷ [])
-unfolding AreRefuted FallsAfter
-falls_after surface c tol w before last s start basis other kept found [] count h at same n =
-    let next : last.columns ≡ before.columns + 1 = n.columns ∙ sym (ap (λ (x : Start). x.columns) same) in (
+-- each plane after one that is cut off is lower
+all_lower : (surface : Surface) (c : Case) (tol : ℕ) (w : Work) (s t start : Start) (before last : Round) (basis other : List ℕ) (kept : Column) (found : Found) (rs : List Round) →
+    surface.count ≡ c.n → IsRound surface c tol s (own_of w s before) before basis (Refuted kept) → slice_get w.columns.items before.columns ≡ Some kept →
+    before.columns < t.columns → AreRefuted surface c tol w t rs start → IsRound surface c tol start (own_of w start last) last other found →
+    AreLower surface.count w before (rs ++ last ∷ [])
+unfolding AreRefuted AreLower
+all_lower surface c tol w s t start before last basis other kept found [] count h at later same n =
+    let columns : last.columns ≡ t.columns = n.columns ∙ sym (ap (λ (x : Start). x.columns) same) in (
       elim n.plane [
-        | inl k ↦ inl (lower surface c tol w s start before last basis other kept found h at next k)
+        | inl k ↦ inl (lower surface c tol w s start before last basis other kept found h at (omega (arith, columns, later)) k)
         | inr k ↦ inr (refl, n.ended ∙ ap round_end k.spent, subst (λ m. HasPurePlane m w last) (sym count) k.plane)
       ],
       tt,
     )
-falls_after surface c tol w before last s start basis other kept found (r ∷ rs) count h at more n = (
-  inl (lower surface c tol w s (after before basis) before r basis more.0 kept (Refuted more.1) h at more.2.columns
-      (searched_there surface c tol (after before basis) (own_of w (after before basis) r) r more.0 more.1 more.2)),
-  falls_after surface c tol w r last (after before basis) start more.0 other more.1 found rs count more.2 more.3 more.4 n,
-)
+all_lower surface c tol w s t start before last basis other kept found (r ∷ rs) count h at later more n =
+    let columns : r.columns ≡ t.columns = more.2.columns in (
+      inl (lower surface c tol w s t before r basis more.0 kept (Refuted more.1) h at (omega (arith, columns, later))
+          (searched_there surface c tol t (own_of w t r) r more.0 more.1 more.2)),
+      all_lower surface c tol w s (after r more.0) start before last basis other kept found rs count h at (omega (arith, columns, later)) more.4 n,
+    )
 
 falls : (surface : Surface) (c : Case) (tol : ℕ) (w : Work) (s start : Start) (last : Round) (other : List ℕ) (found : Found) (rs : List Round) → surface.count ≡ c.n →
     AreRefuted surface c tol w s rs start → IsRound surface c tol start (own_of w start last) last other found → Falls surface.count w (rs ++ last ∷ [])
-unfolding AreRefuted FallsAfter
-falls surface c tol w s start last other found [] count h n = tt
-falls surface c tol w s start last other found (r ∷ rs) count h n = falls_after surface c tol w r last s start h.0 other h.1 found rs count h.2 h.3 h.4 n
+unfolding AreRefuted AreLower Falls
+falls surface c tol w s start last other found [] count h n = (tt, tt)
+falls surface c tol w s start last other found (r ∷ rs) count h n = (
+  all_lower surface c tol w s (after r h.0) start r last h.0 other h.1 found rs count h.2 h.3 (omega arith) h.4 n,
+  falls surface c tol w (after r h.0) start last other found rs count h.4 n,
+)
 
 pub planes_fall : PlanesFall
 planes_fall surface c tol budget a h =

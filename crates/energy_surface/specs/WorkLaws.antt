@@ -45,7 +45,7 @@ ColumnsAreKept =
     (s : Surface) (c : Case) (tol budget : ℕ) (a : Answer) → IsLawful s c tol budget a →
     (candidates : ℕ) × (candidates ≤ 32) × (length a.work.columns.items ≡ c.n + candidates + refutations a.work.rounds.items)
 
--- the plane of a round lies below that of the round before it, at the column that the latter keeps
+-- the plane of a round lies below that of a round before it, at the column that the latter keeps
 abbrev pub IsLower : ℕ → Work → Round → Round → Type 0
 IsLower n w before r =
     (kept : Column) × (slice_get w.columns.items before.columns ≡ Some kept)
@@ -56,13 +56,14 @@ abbrev pub HasPurePlane : ℕ → Work → Round → Type 0
 HasPurePlane n w r = r.plane.lam ≡ plane_of n (take r.columns w.columns.items) start_places
 
 -- so does each plane after a round; but the last round may have the plane of the pure columns, where no unit was left
-unfoldable pub FallsAfter : ℕ → Work → Round → List Round → Type 0
-FallsAfter n w before [] = Unit {0}
-FallsAfter n w before (r ∷ rs) = (IsLower n w before r ⊎ ((rs ≡ []) × (r.end ≡ Spent) × HasPurePlane n w r)) × FallsAfter n w r rs
+unfoldable pub AreLower : ℕ → Work → Round → List Round → Type 0
+AreLower n w before [] = Unit {0}
+AreLower n w before (r ∷ rs) = (IsLower n w before r ⊎ ((rs ≡ []) × (r.end ≡ Spent) × HasPurePlane n w r)) × AreLower n w before rs
 
-abbrev pub Falls : ℕ → Work → List Round → Type 0
-Falls n w [] = ⊥
-Falls n w (r ∷ rs) = FallsAfter n w r rs
+-- and after each round
+unfoldable pub Falls : ℕ → Work → List Round → Type 0
+Falls n w [] = Unit {0}
+Falls n w (r ∷ rs) = AreLower n w r rs × Falls n w rs
 
 -- no plane is searched twice
 abbrev pub PlanesFall : Type 0

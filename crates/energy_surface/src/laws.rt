@@ -38,7 +38,7 @@ pub fn columns_are_kept()
     ensures { ColumnsAreKept }
 {}
 
-/// No plane is searched twice: each lies below the one before it, where the column is that cut that one off.
+/// No plane is searched twice: each lies below every one before it, at the column that cut that one off.
 pub fn planes_fall()
     ensures { PlanesFall }
 {}

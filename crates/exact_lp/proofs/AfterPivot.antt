@@ -3,7 +3,6 @@ use Rattle.std.proofs.Common.{◌≡◌, ◌≢◌, ℕ, zero, suc, ◌<◌, ◌
 use Rattle.std.specs.Prelude.{nat_eq}
 use Rattle.std.proofs.Math.Path.{fun_ext}
 use Rattle.std.proofs.lemmas.List.{get_or-set_same, get_or-set_other}
-use Rattle.std.proofs.lemmas.Bool.Decides.{nat_tests}
 use Rattle.std.proofs.lemmas.Int.{ints}
 use Rattle.case_types.specs.declared.cases.Case.{Case}
 use Rattle.case_types.specs.declared.rounds.Column.{Column}
@@ -12,17 +11,14 @@ use Rattle.energy_surface.specs.Program.Bases.{column_at, composition, system, f
 use Rattle.energy_surface.specs.Program.Pivots.{IsLeaving}
 use Rattle.energy_surface.specs.Program.Solutions.{signed_by, size, amount}
 use Rattle.log_laws.proofs.Exports.{no_less}
-use Rattle.exact_lp.proofs.Systems.{same_number}
+use Rattle.std.proofs.lemmas.Bool.{eqb-true, eqb-false}
 use Rattle.exact_lp.proofs.PivotedAmounts.{amount_left, amount_kept}
 
 -- ---- the system after the pivot
-other_number : (a b : ℕ) → nat_eq a b ≡ false → a ≢ b
-other_number a b h = grind (arith, nat_tests)
-
 entered : (cols : List Column) (at : List ℕ) (k enter : ℕ) → k < length at → (r c : ℕ) (b : Bool) → nat_eq r k ≡ b →
     system cols (slice_set at k enter) r c ≡ with_row k (composition (column_at cols enter)) (system cols at) r c
-entered cols at k enter h r c true e = rw (e, same_number r k e, get_or-set_same at k enter 0 h) refl
-entered cols at k enter h r c false e = rw (e, get_or-set_other at k r enter 0 (other_number r k e)) refl
+entered cols at k enter h r c true e = rw (e, eqb-true r k e, get_or-set_same at k enter 0 h) refl
+entered cols at k enter h r c false e = rw (e, get_or-set_other at k r enter 0 (eqb-false r k e)) refl
 
 pub system_after : (cols : List Column) (at : List ℕ) (k enter : ℕ) → k < length at →
     system cols (slice_set at k enter) ≡ with_row k (composition (column_at cols enter)) (system cols at)
@@ -51,7 +47,7 @@ pub pivot_feeds : (c : Case) (cols : List Column) (at : List ℕ) (enter k : ℕ
 pivot_feeds c cols at enter k basis leaves j h true e =
     let m = system cols at in
     let x = composition (column_at cols enter) in
-    rw (same_number j k e) (rw (replaced_twice c.n k (feed_of c) x m, amount_left c.n m x (feed_of c) k leaves.takes_part) (basis.feeds k leaves.place))
+    rw (eqb-true j k e) (rw (replaced_twice c.n k (feed_of c) x m, amount_left c.n m x (feed_of c) k leaves.takes_part) (basis.feeds k leaves.place))
   where
     replaced_twice : (n k : ℕ) (z x : ℕ → ℤ) (m : ℕ → ℕ → ℤ) → determinant n (with_row k z (with_row k x m)) ≡ determinant n (with_row k z m)
     replaced_twice n k z x m = ap (determinant n) (fun_ext (λ r. fun_ext (λ c. twice r c (nat_eq r k) refl)))
@@ -63,7 +59,7 @@ pivot_feeds c cols at enter k basis leaves j h false e =
     let m = system cols at in
     let x = composition (column_at cols enter) in
     let z = feed_of c in
-    amount_kept c.n c.some c.few m x z j k h leaves.place (other_number j k e) leaves.takes_part (spans_above c cols at basis) (basis.feeds j h) (basis.feeds k leaves.place)
+    amount_kept c.n c.some c.few m x z j k h leaves.place (eqb-false j k e) leaves.takes_part (spans_above c cols at basis) (basis.feeds j h) (basis.feeds k leaves.place)
     (elim (no_less (amount c.n m x j) (pos 0)) [
       | inl down ↦ inl down
       | inr up ↦ inr (less_or_same (amount c.n m z k *ℤ amount c.n m x j) (amount c.n m z j *ℤ amount c.n m x k) (slice_index at k ≤ slice_index at j) (leaves.least j h up))
@@ -78,5 +74,5 @@ pivot_keeps c cols at enter k basis inside long leaves = record {
 }
   where
     place_inside : (j : ℕ) → j < c.n → (b : Bool) → nat_eq j k ≡ b → slice_index (slice_set at k enter) j < length cols
-    place_inside j h true e = rw (same_number j k e, get_or-set_same at k enter 0 long) inside
-    place_inside j h false e = rw (get_or-set_other at k j enter 0 (other_number j k e)) (basis.inside j h)
+    place_inside j h true e = rw (eqb-true j k e, get_or-set_same at k enter 0 long) inside
+    place_inside j h false e = rw (get_or-set_other at k j enter 0 (eqb-false j k e)) (basis.inside j h)

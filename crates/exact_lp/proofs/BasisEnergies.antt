@@ -28,7 +28,9 @@ use Rattle.exact_lp.proofs.FairPlanes.{plane_weighed, plane_at_is}
 use Rattle.exact_lp.proofs.KeptColumns.{up_under_cost}
 use Rattle.exact_lp.proofs.PhaseShares.{share_near, phases_up-append}
 use Rattle.exact_lp.proofs.PlanesUnderCosts.{scale_out}
-use Rattle.exact_lp.proofs.SplitOfBasis.{live_parts_sum, some_weight, no_weight, one_mole}
+use Rattle.exact_lp.proofs.SplitOfBasis.{live_parts_sum, some_weight}
+use Rattle.std.proofs.lemmas.Bool.{eqb-true}
+use Rattle.case_types.proofs.Exports.{total_positive}
 use Rattle.exact_lp.proofs.WeighedAmounts.{plane_at_row}
 
 -- ---- the energy of the phases of a basis
@@ -60,7 +62,7 @@ module _ (s : Surface) (n : ℕ) (count : s.count ≡ n) (low : 1 ≤ n) (high :
 
   one_phase_more : (fs : List Phase) (w : ℕ) (col : Column) (b : Bool) → nat_eq w 0 ≡ b → IsColumn s col →
       (phases_up s.count s.up q (fs ++ weighted_phases n w col) *ℤ pos q) ≤ℤ (phases_up s.count s.up q fs *ℤ pos q +ℤ most_of q w col.up)
-  one_phase_more fs w col true e good = rw (e, append-nil fs, no_weight w e) (nothing_weighs q (phases_up s.count s.up q fs *ℤ pos q) col.up)
+  one_phase_more fs w col true e good = rw (e, append-nil fs, eqb-true w 0 e) (nothing_weighs q (phases_up s.count s.up q fs *ℤ pos q) col.up)
   one_phase_more fs w col false e good =
       rw (e, phases_up-append s.count s.up q fs (weighted_phase n w col))
       (add_share (phases_up s.count s.up q fs) _ (most_of q w col.up) q (share_of_column w col (some_weight w e) good))
@@ -148,7 +150,7 @@ basis_up_near s c cols at count basis good =
     let m = system cols at in
     let spans = spans_above c cols at basis in
     let q = c.total * size c.n m in
-    let some : 0 < q = mul-pos (one_mole c) spans in
+    let some : 0 < q = mul-pos (total_positive c) spans in
     let paid = int_sum_below c.n (λ j. amount c.n m (feed_of c) j *ℤ costs_of cols at j) in
     let sloped = int_sum_below c.n (λ i. slope c.n m (costs_of cols at) i *ℤ feed_of c i) in
     let row : paid ≡ sloped = plane_at_row c.n c.some c.few m (costs_of cols at) (feed_of c) spans in
@@ -157,7 +159,7 @@ basis_up_near s c cols at count basis good =
     let floored = plane_floored c.n cols at (slice_index c.z) spans in
     rw (plane_at_is c.n cols at c.z c.total c.few)
     (within_ten (basis_up s c cols at) (floor_over t c.total) (pos (size c.n m) *ℤ t) (pos (2 ^ 30) *ℤ paid) q some
-    (energy q some) (rw row (moles (pos (2 ^ 30) *ℤ sloped) (pos (size c.n m) *ℤ t) (size c.n m) (rw total at floored))) (floor_of_feed t c.total (size c.n m) (one_mole c)))
+    (energy q some) (rw row (moles (pos (2 ^ 30) *ℤ sloped) (pos (size c.n m) *ℤ t) (size c.n m) (rw total at floored))) (floor_of_feed t c.total (size c.n m) (total_positive c)))
   where
     moles : (a b : ℤ) (z : ℕ) → a ≤ℤ (b +ℤ pos z *ℤ pos c.total) → a ≤ℤ (b +ℤ pos (c.total * z))
     moles a b z h = omega (arith, ints, h)

@@ -3,7 +3,6 @@ use Rattle.std.proofs.Common.{◌≡◌, ℕ, ◌+◌, ◌-◌, ◌*◌, ◌^◌
 use Rattle.std.specs.Prelude.{nat_eq, nat_lt, IsTrue}
 use Rattle.std.specs.List.{All}
 use Rattle.std.proofs.lemmas.Nat.{div-mul-add}
-use Rattle.std.proofs.lemmas.Bool.Decides.{nat_tests}
 use Rattle.std.proofs.lemmas.List.Sums.{AllPass-from_list_all}
 use Rattle.log_laws.specs.Sums.{sum_below, list_below}
 use Rattle.case_types.specs.declared.cases.Case.{Case}
@@ -17,7 +16,8 @@ use Rattle.energy_surface.specs.Columns.{IsColumn}
 use Rattle.energy_surface.specs.Program.Bases.{no_column, column_at, IsBasis}
 use Rattle.energy_surface.specs.Program.Splits.{live_part, weighted_phase, weight_of, phases_below}
 use Rattle.energy_surface.specs.Surfaces.{Surface}
-use Rattle.exact_lp.proofs.SplitOfBasis.{live_parts_sum, some_weight, lt_test, below_from, phases_pass}
+use Rattle.exact_lp.proofs.SplitOfBasis.{live_parts_sum, some_weight, phases_pass}
+use Rattle.std.proofs.lemmas.Bool.{lt-ltb, ltb-true, ltb-false}
 
 -- ---- a share is whole
 whole_down : (w x m : ℕ) → 0 < m → m ≡ w * 2 ^ 20 → share_down one (w * x) m ≡ x * 2 ^ 20
@@ -28,13 +28,10 @@ whole_up w x m some e =
     let split : w * x * one ≡ x * 2 ^ 20 * m = rw e (omega arith) in rw split (div-mul-add (x * 2 ^ 20) m (m - 1) (omega (arith, some)))
 
 -- ---- the ends of the box
-past_live : (n i : ℕ) → nat_lt i n ≡ false → n ≤ i
-past_live n i e = grind (arith, nat_tests)
-
 entry_whole : (share : ℕ → ℕ) (n w i : ℕ) (x : List ℕ) (b : Bool) → nat_lt i n ≡ b → share (w * slice_index x i) ≡ slice_index x i * 2 ^ 20 → (n ≤ i → slice_index x i ≡ 0) →
     cond (nat_lt i n) (share (live_part n w x i)) 0 ≡ slice_index x i * 2 ^ 20
 entry_whole share n w i x true t e rest = rw t e
-entry_whole share n w i x false t e rest = rw (t, rest (past_live n i t)) refl
+entry_whole share n w i x false t e rest = rw (t, rest (ltb-false i n t)) refl
 
 four_same : (a b c d p q r s : ℕ) → a ≡ p → b ≡ q → c ≡ r → d ≡ s → (a ∷ b ∷ c ∷ d ∷ []) ≡ (p ∷ q ∷ r ∷ s ∷ [])
 four_same a b c d p q r s e f g h = cc
@@ -79,7 +76,7 @@ pub phases_small : (s : Surface) (c : Case) (cols : List Column) (at : List ℕ)
     All (λ (col : Column). IsColumn s col) cols →
     All (λ (f : Phase). unsigned_abs (phase_up s.count s.up f) < 2 ^ 49) (phases_below c cols at c.n)
 phases_small s c cols at count basis good k d l =
-    below_from _ _ (AllPass-from_list_all (λ (f : Phase). nat_lt (unsigned_abs (phase_up s.count s.up f)) (2 ^ 49)) (phases_below c cols at c.n)
+    ltb-true _ _ (AllPass-from_list_all (λ (f : Phase). nat_lt (unsigned_abs (phase_up s.count s.up f)) (2 ^ 49)) (phases_below c cols at c.n)
     (phases_pass (λ (f : Phase). nat_lt (unsigned_abs (phase_up s.count s.up f)) (2 ^ 49)) c cols at c.n passes) k d l)
   where
     passes : (j : ℕ) → j < c.n → nat_eq (weight_of c cols at j) 0 ≡ false →
@@ -87,4 +84,4 @@ phases_small s c cols at count basis good k d l =
     passes j h some =
         let inside = basis.inside j h in
         let col = good (slice_index at j) no_column inside in
-        lt_test _ _ (rw (up_of_column s c.n (weight_of c cols at j) (column_at cols (slice_index at j)) count c.some c.few (some_weight (weight_of c cols at j) some) col) col.small)
+        lt-ltb _ _ (rw (up_of_column s c.n (weight_of c cols at j) (column_at cols (slice_index at j)) count c.some c.few (some_weight (weight_of c cols at j) some) col) col.small)

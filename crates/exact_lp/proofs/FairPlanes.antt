@@ -1,34 +1,33 @@
 -- The plane of a basis lies nearly at most at the energy of a column that has no negative price.
-use Rattle.std.proofs.Common.{◌≡◌, ℕ, ◌^◌, ◌<◌, ◌≤◌, inl, inr, List, ℤ, pos, ◌+ℤ◌, ◌*ℤ◌, ◌≤ℤ◌, ◌<ℤ◌, slice_index, refl, ap, arith, lit<}
+use Rattle.std.proofs.Common.{◌≡◌, ℕ, ◌^◌, ◌<◌, ◌≤◌, List, ℤ, pos, ◌+ℤ◌, ◌*ℤ◌, ◌≤ℤ◌, ◌<ℤ◌, slice_index, refl, ap, arith, lit<}
 use Rattle.std.specs.List.{All}
 use Rattle.std.proofs.lemmas.Int.{ints}
 use Rattle.std.proofs.lemmas.List.Elements.{All-from_get_or}
 use Rattle.log_laws.specs.Sums.{int_sum_below}
 use Rattle.log_laws.specs.Whole.{floor_over}
-use Rattle.log_laws.proofs.Exports.{floor_over-le, no_less, sum-same}
+use Rattle.log_laws.proofs.Exports.{floor_over-le, sum-same}
 use Rattle.case_types.specs.declared.cases.Case.{Case}
 use Rattle.case_types.specs.declared.rounds.Column.{Column}
 use Rattle.case_types.specs.Arithmetic.Bounds.{plane_at, plane_times, potential}
 use Rattle.case_types.specs.Grid.Columns.{point_of, plane_at_point}
-use Rattle.energy_surface.specs.Columns.{IsColumn, Refutes}
-use Rattle.energy_surface.specs.Outcomes.{delta_of}
+use Rattle.energy_surface.specs.Columns.{IsColumn}
 use Rattle.energy_surface.specs.Program.Bases.{no_column, column_at, system, costs_of, IsBasis}
 use Rattle.energy_surface.specs.Program.Pivots.{price_of, IsOptimal}
 use Rattle.energy_surface.specs.Program.Planes.{plane_entry, plane_of}
 use Rattle.energy_surface.specs.Program.Solutions.{size}
 use Rattle.energy_surface.specs.Rounds.{quarter_of}
-use Rattle.energy_surface.specs.Surfaces.{Surface, under}
+use Rattle.energy_surface.specs.Surfaces.{Surface}
 use Rattle.exact_lp.proofs.AfterPivot.{spans_above}
 use Rattle.exact_lp.proofs.DeterminantRules.{by_place}
 use Rattle.exact_lp.proofs.KeptColumns.{cost_near_up}
 use Rattle.exact_lp.proofs.PlanesUnderCosts.{plane_under_cost}
-use Rattle.exact_lp.proofs.SplitOfBasis.{live_test}
+use Rattle.std.proofs.lemmas.Bool.{lt-ltb}
 
 -- ---- the plane at parts
 entry_of_plane : (n : ℕ) (cols : List Column) (at : List ℕ) → n ≤ 4 → (i : ℕ) → i < n → potential (plane_of n cols at) i ≡ plane_entry n cols at i
 entry_of_plane n cols at high i h =
     by_place (λ i. i < n → potential (plane_of n cols at) i ≡ plane_entry n cols at i)
-    (λ h. rw (live_test 0 n h) refl) (λ h. rw (live_test 1 n h) refl) (λ h. rw (live_test 2 n h) refl) (λ h. rw (live_test 3 n h) refl) i (omega (arith, h, high)) h
+    (λ h. rw (lt-ltb 0 n h) refl) (λ h. rw (lt-ltb 1 n h) refl) (λ h. rw (lt-ltb 2 n h) refl) (λ h. rw (lt-ltb 3 n h) refl) i (omega (arith, h, high)) h
 
 -- the floors of the slopes, weighed
 abbrev pub plane_weighed : ℕ → List Column → List ℕ → (ℕ → ℕ) → ℤ
@@ -69,18 +68,3 @@ none_deeper s c tol cols at count fine basis optimal good =
     All-from_get_or (λ (col : Column). plane_at_point s.count (plane_of c.n cols at) (point_of col) ≤ℤ (col.up +ℤ quarter_of tol)) cols no_column
     (λ j h. within_quarter _ (column_at cols j).up tol fine
     (plane_near_column s c.n cols at (column_at cols j) count c.few (spans_above c cols at basis) (good j no_column h) (optimal j h)))
-
--- ---- a column that cuts the plane off
-not_below : (f up : ℤ) (tol : ℕ) → 1 ≤ tol → f <ℤ (up +ℤ pos (2 ^ 10)) → (up +ℤ delta_of tol) <ℤ f → ⊥
-not_below f up tol h k l = omega (arith, ints, h, k, l)
-
--- it has a negative price
-pub cheaper_below_plane : (s : Surface) (c : Case) (tol : ℕ) (cols : List Column) (at : List ℕ) (kept : Column) → s.count ≡ c.n → 1 ≤ tol → IsBasis c cols at →
-    IsColumn s kept → Refutes (under s (plane_of c.n cols at) (delta_of tol)) (point_of kept) → price_of c.n cols at kept <ℤ pos 0
-cheaper_below_plane s c tol cols at kept count fine basis good cuts =
-    elim (no_less (pos 0) (price_of c.n cols at kept)) [
-      | inl up ↦
-          absurd (not_below (plane_at_point s.count (plane_of c.n cols at) (point_of kept)) kept.up tol fine
-          (plane_near_column s c.n cols at kept count c.few (spans_above c cols at basis) good up) (rw good.up cuts.below))
-      | inr less ↦ less
-    ]

@@ -3,6 +3,7 @@ use Rattle.std.proofs.Common.{◌≡◌, ℕ, zero, suc, ◌+◌, ◌*◌, ◌<�
 use Rattle.std.specs.Prelude.{if◌then◌else◌, nat_eq, nat_lt}
 use Rattle.std.proofs.lemmas.Int.{ints}
 use Rattle.std.proofs.lemmas.Bool.Decides.{nat_tests}
+use Rattle.std.proofs.lemmas.Bool.{lt-ltb, le-ltb}
 use Rattle.log_laws.specs.Sums.{sum_below, int_sum_below}
 use Rattle.case_types.specs.declared.rounds.Column.{Column}
 use Rattle.energy_surface.specs.Program.Determinants.{determinant, with_row}
@@ -87,7 +88,7 @@ determinant-same m p h =
     e : (r c : ℕ) → r < 4 → c < 4 → m r c ≡ p r c
     e = h
 
-with_same : (b : Bool) (x y z : ℤ) → y ≡ z → (if b then x else y) ≡ (if b then x else z)
+pub with_same : (b : Bool) (x y z : ℤ) → y ≡ z → (if b then x else y) ≡ (if b then x else z)
 with_same true x y z h = refl
 with_same false x y z h = h
 
@@ -136,19 +137,13 @@ pub along_live : (a : List ℤ) (n : ℕ) (x : List ℕ) → along a (row_of (li
 along_live a n x = along_same a (row_of (live_parts n x)) (masked n (row_of x)) (live_row n x)
 
 -- ---- what amounts cost
-from_nothing : (a b c d : ℤ) → ((a +ℤ b) +ℤ c) +ℤ d ≡ (((pos 0 +ℤ a) +ℤ b) +ℤ c) +ℤ d
+pub from_nothing : (a b c d : ℤ) → ((a +ℤ b) +ℤ c) +ℤ d ≡ (((pos 0 +ℤ a) +ℤ b) +ℤ c) +ℤ d
 from_nothing a b c d = omega (arith, ints)
 
 paid_sum : (a b c d l : List ℤ) (x : ℕ → ℤ) → paid a b c d l x ≡ int_sum_below 4 (λ k. along (nth a b c d k) x *ℤ slice_index_or l k (pos 0))
 unfolding nth int_sum_below
 paid_sum a b c d l x =
     from_nothing (along a x *ℤ slice_index_or l 0 (pos 0)) (along b x *ℤ slice_index_or l 1 (pos 0)) (along c x *ℤ slice_index_or l 2 (pos 0)) (along d x *ℤ slice_index_or l 3 (pos 0))
-
-inside : (k n : ℕ) → k < n → nat_lt k n ≡ true
-inside k n h = grind (arith, nat_tests)
-
-outside : (k n : ℕ) → n ≤ k → nat_lt k n ≡ false
-outside k n h = grind (arith, nat_tests)
 
 cost_entry : (n : ℕ) (cols : List Column) (at : List ℕ) (k : ℕ) → k < 4 → slice_index_or (live_costs n cols at) k (pos 0) ≡ live_cost n cols at k
 cost_entry n cols at k h = by_place (λ k. slice_index_or (live_costs n cols at) k (pos 0) ≡ live_cost n cols at k) refl refl refl refl k h
@@ -158,8 +153,8 @@ module _ (n : ℕ) (low : 1 ≤ n) (high : n ≤ 4) (cols : List Column) (at : L
   paid_is x =
       paid_sum a b c d (live_costs n cols at) (masked n x)
       ∙ sum-cut n low high (λ k. along (nth a b c d k) (masked n x) *ℤ slice_index_or (live_costs n cols at) k (pos 0)) (λ k. amount n (system cols at) x k *ℤ costs_of cols at k)
-      (λ k h. rw (frame_amount n low high (system cols at) s a b c d f x k h, cost_entry n cols at k (omega (arith, h, high)), inside k n h) refl)
-      (λ k h g. rw (cost_entry n cols at k g, outside k n h) (times_nothing (along (nth a b c d k) (masked n x))))
+      (λ k h. rw (frame_amount n low high (system cols at) s a b c d f x k h, cost_entry n cols at k (omega (arith, h, high)), lt-ltb k n h) refl)
+      (λ k h g. rw (cost_entry n cols at k g, le-ltb k n h) (times_nothing (along (nth a b c d k) (masked n x))))
 
   pub price_is : (col : Column) → 0 < size n (system cols at) →
       pos s *ℤ col.cost -ℤ paid a b c d (live_costs n cols at) (row_of (live_parts n col.comp)) ≡ price n (system cols at) (costs_of cols at) (composition col) col.cost
@@ -168,7 +163,7 @@ module _ (n : ℕ) (low : 1 ≤ n) (high : n ≤ 4) (cols : List Column) (at : L
 
 -- along a unit
 unit_same : (n i : ℕ) → i < n → (k : ℕ) (b : Bool) → nat_eq i k ≡ b → (if nat_eq i k then pos 1 else pos 0) ≡ masked n (λ k. pos (if nat_eq k i then 1 else 0)) k
-unit_same n i h k true e = rw (inside k n (at_place i k e h), turned_test i k e, e) refl
+unit_same n i h k true e = rw (lt-ltb k n (at_place i k e h), turned_test i k e, e) refl
   where
     at_place : (i k : ℕ) → nat_eq i k ≡ true → i < n → k < n
     at_place i k e h = grind (arith, nat_tests)

@@ -4,7 +4,7 @@ use Rattle.std.specs.Prelude.{nat_lt}
 use lib.Signed.{lt_z, le_z}
 use Rattle.std.specs.Int.{w64, w128}
 use Rattle.std.proofs.lemmas.Int.{ints, to_z-of_z, fits_signed_from_abs, unsigned_abs-mul}
-use Rattle.std.proofs.lemmas.Bool.Decides.{nat_tests}
+use Rattle.std.proofs.lemmas.Bool.{lt-ltb, ltb-true}
 use Rattle.std.proofs.Math.Nat.{mul-le-mul}
 use Rattle.log_laws.proofs.Exports.{all_below-at, all_below-from}
 use Rattle.exact_lp.proofs.DeterminantRules.{by_place}
@@ -13,12 +13,9 @@ use Rattle.case_types.specs.Ranges.{is_each_below}
 pub read : (z : ℤ) → FitsSigned w128 z → to_z w128 (of_z w128 z) ≡ z
 read z f = to_z-of_z w128 z f
 
-below_from : (a b : ℕ) → IsTrue (nat_lt a b) → a < b
-below_from a b h = grind (arith, nat_tests)
-
 pub entry_small : (a : List ℤ) (limit i : ℕ) → i < 4 → IsTrue (is_each_below 4 a limit) → unsigned_abs (slice_index_or a i (pos 0)) < limit
 entry_small a limit i h t =
-    below_from _ _ (all_below-at 4 (λ i. nat_lt (unsigned_abs (slice_index_or a i (pos 0))) limit) i h t)
+    ltb-true _ _ (all_below-at 4 (λ i. nat_lt (unsigned_abs (slice_index_or a i (pos 0))) limit) i h t)
 
 same : (x : ℕ) → x ≤ x
 same x = omega arith
@@ -26,17 +23,11 @@ same x = omega arith
 pub product_small : (a x limit : ℕ) → a ≤ limit → a * x ≤ limit * x
 product_small a x limit h = mul-le-mul h (same x)
 
-true_from : (a b : ℕ) → a < b → IsTrue (nat_lt a b)
-true_from a b h = grind (arith, nat_tests)
-
 pub four_small : (a b c d : ℤ) (limit : ℕ) → unsigned_abs a < limit → unsigned_abs b < limit → unsigned_abs c < limit → unsigned_abs d < limit →
     IsTrue (is_each_below 4 (a ∷ b ∷ c ∷ d ∷ []) limit)
 four_small a b c d limit h k l m =
     all_below-from 4 (λ i. nat_lt (unsigned_abs (slice_index_or (a ∷ b ∷ c ∷ d ∷ []) i (pos 0))) limit)
-    (by_place (λ i. IsTrue (nat_lt (unsigned_abs (slice_index_or (a ∷ b ∷ c ∷ d ∷ []) i (pos 0))) limit)) (true_from _ _ h) (true_from _ _ k) (true_from _ _ l) (true_from _ _ m))
-
-pub negated : (z : ℤ) → unsigned_abs z < 2 ^ 101 → to_z w128 (of_z w128 (pos 0 -ℤ to_z w128 (of_z w128 z))) ≡ neg_ℤ z
-negated z h = omega (arith, ints)
+    (by_place (λ i. IsTrue (nat_lt (unsigned_abs (slice_index_or (a ∷ b ∷ c ∷ d ∷ []) i (pos 0))) limit)) (lt-ltb _ _ h) (lt-ltb _ _ k) (lt-ltb _ _ l) (lt-ltb _ _ m))
 
 pub neg_small : (z : ℤ) (limit : ℕ) → unsigned_abs z < limit → unsigned_abs (neg_ℤ z) < limit
 neg_small z limit h = omega (arith, ints)

@@ -1,5 +1,5 @@
 -- Pivots in a row lead from a basis to a basis, and a basis stays one while columns are kept.
-use Rattle.std.proofs.Common.{◌≡◌, ℕ, zero, suc, ◌<◌, List, [], ◌∷◌, ◌++◌, length, slice_set, refl, ◌∙◌, arith, ◌≤◌, Bool, true, false, ℤ, slice_index, ap, sym}
+use Rattle.std.proofs.Common.{◌≡◌, ℕ, zero, suc, ◌<◌, List, [], ◌∷◌, ◌++◌, length, slice_set, refl, ◌∙◌, arith, ◌≤◌, ℤ, slice_index, ap, sym}
 use Rattle.std.proofs.lemmas.List.{length-set, length-append}
 use Rattle.case_types.specs.declared.cases.Case.{Case}
 use Rattle.case_types.specs.declared.pivots.Pivot.{Pivot}
@@ -7,13 +7,14 @@ use Rattle.case_types.specs.declared.rounds.Column.{Column}
 use Rattle.energy_surface.specs.Program.Bases.{column_at, composition, system, feed_of, IsBasis}
 use Rattle.energy_surface.specs.Program.Pivots.{IsEntering, IsLeaving, ArePivots}
 use Rattle.energy_surface.specs.Program.Solutions.{amount}
-use Rattle.std.specs.Prelude.{if◌then◌else◌, nat_eq, nat_lt}
+use Rattle.std.specs.Prelude.{nat_eq, nat_lt}
 use Rattle.energy_surface.specs.Program.Determinants.{determinant, with_row}
 use Rattle.exact_lp.specs.Frames.{filled}
 use Rattle.exact_lp.proofs.DeterminantRules.{filled-determinant}
 use Rattle.exact_lp.proofs.Systems.{determinant-same}
 use Rattle.exact_lp.proofs.StartBasis.{filled_same}
 use Rattle.exact_lp.proofs.AfterPivot.{pivot_keeps}
+use Rattle.exact_lp.proofs.LiveParts.{with_same}
 
 -- one pivot more
 pub pivots-push : (c : Case) (kept : List Column) (at mid : List ℕ) (vs : List Pivot) (v : Pivot) → ArePivots c kept at vs mid →
@@ -43,13 +44,9 @@ entries_same n low high m p h =
     ∙ determinant-same 4 (filled n m) (filled n p) (λ r c. filled_same n m p h r c (nat_lt r n) (nat_lt c n) refl refl)
     ∙ sym (filled-determinant n low high p)
 
-row_same : (b : Bool) (x y z : ℤ) → y ≡ z → (if b then x else y) ≡ (if b then x else z)
-row_same true x y z h = refl
-row_same false x y z h = h
-
 amount_same : (n : ℕ) → 1 ≤ n → n ≤ 4 → (m p : ℕ → ℕ → ℤ) (x : ℕ → ℤ) (k : ℕ) → ((k i : ℕ) → k < n → i < n → m k i ≡ p k i) → amount n m x k ≡ amount n p x k
 amount_same n low high m p x k h =
-    rw (entries_same n low high m p h, entries_same n low high (with_row k x m) (with_row k x p) (λ r c g l. row_same (nat_eq r k) (x c) (m r c) (p r c) (h r c g l))) refl
+    rw (entries_same n low high m p h, entries_same n low high (with_row k x m) (with_row k x p) (λ r c g l. with_same (nat_eq r k) (x c) (m r c) (p r c) (h r c g l))) refl
 
 pub basis_kept : (c : Case) (cols : List Column) (col : Column) (at : List ℕ) → IsBasis c cols at → IsBasis c (cols ++ col ∷ []) at
 basis_kept c cols col at basis =

@@ -1,12 +1,11 @@
 -- A plane stays while columns are kept.
-use Rattle.std.proofs.Common.{◌≡◌, ℕ, ◌<◌, ◌≤◌, Bool, true, false, List, [], ◌∷◌, ◌++◌, length, ℤ, pos, ◌*ℤ◌, ◌^◌, slice_index, ap, refl}
-use Rattle.std.specs.Prelude.{if◌then◌else◌, nat_eq, nat_lt}
-use Rattle.log_laws.specs.Whole.{floor_over}
+use Rattle.std.proofs.Common.{◌≡◌, ℕ, ◌<◌, ◌≤◌, Bool, true, false, List, [], ◌∷◌, ◌++◌, length, ℤ, slice_index, ap, refl}
+use Rattle.std.specs.Prelude.{if◌then◌else◌, nat_eq}
 use Rattle.case_types.specs.declared.rounds.Column.{Column}
-use Rattle.energy_surface.specs.Program.Bases.{column_at, composition, system, costs_of}
-use Rattle.energy_surface.specs.Program.Determinants.{determinant, with_column}
-use Rattle.energy_surface.specs.Program.Planes.{plane_of, live_entry, plane_entry}
-use Rattle.energy_surface.specs.Program.Solutions.{slope, size}
+use Rattle.energy_surface.specs.Program.Bases.{composition, system, costs_of}
+use Rattle.energy_surface.specs.Program.Determinants.{with_column}
+use Rattle.energy_surface.specs.Program.Planes.{plane_of, live_entry}
+use Rattle.energy_surface.specs.Program.Solutions.{slope}
 use Rattle.exact_lp.proofs.PivotSequences.{column_at-append, entries_same}
 
 module _ (n : ℕ) (low : 1 ≤ n) (high : n ≤ 4) (cols : List Column) (col : Column) (at : List ℕ) (inside : (k : ℕ) → k < n → slice_index at k < length cols) where

@@ -3,14 +3,13 @@ use Rattle.std.proofs.Common.{◌≡◌, ℕ, zero, suc, ◌+◌, ◌*◌, ◌^�
 use Rattle.std.specs.Prelude.{if◌then◌else◌, nat_eq}
 use Rattle.std.proofs.Math.IntN.{*ℤ_comm}
 use Rattle.std.proofs.Math.Nat.{mul-le-mul, div-lt_iff_lt-mul}
-use Rattle.std.proofs.lemmas.Bool.{cases_lt}
+use Rattle.std.proofs.lemmas.Bool.{cases_lt, ne_eqb}
 use Rattle.std.proofs.lemmas.Bool.Decides.{nat_tests}
 use Rattle.std.proofs.lemmas.Int.{ints}
 use Rattle.log_laws.specs.Sums.{int_sum_below}
 use Rattle.log_laws.specs.Whole.{floor_over}
 use Rattle.energy_surface.specs.Program.Solutions.{size, amount, slope, price}
-use Rattle.log_laws.proofs.Exports.{sum-nothing, sum-same, sum-scaled, times_nothing, summand, sum_up}
-use Rattle.exact_lp.proofs.Systems.{other_number}
+use Rattle.log_laws.proofs.Exports.{natural, sum-nothing, sum-same, sum-scaled, times_nothing, summand, sum_up}
 use Rattle.exact_lp.proofs.WeighedAmounts.{amounts_weigh, plane_at_row}
 use Rattle.exact_lp.proofs.SlopeSteps.{gaps, cost_up, one_left, from_below, products_of}
 
@@ -41,7 +40,7 @@ own_number a = grind (arith, nat_tests)
 
 pub pure_sum : (n : ℕ) (l x : ℕ → ℤ) (t i : ℕ) → i < n → ((k : ℕ) → k < n → x k ≡ pos (if nat_eq k i then t else 0)) → int_sum_below n (λ k. l k *ℤ x k) ≡ l i *ℤ pos t
 pure_sum n l x t i h pure =
-    one_alone n (λ k. l k *ℤ x k) i h (λ k g apart. rw (pure k g, other_number k i apart) (times_nothing (l k)))
+    one_alone n (λ k. l k *ℤ x k) i h (λ k g apart. rw (pure k g, ne_eqb k i apart) (times_nothing (l k)))
     ∙ rw (pure i h, own_number i) refl
 
 under_cost : (s c h : ℕ) (cost y : ℤ) → unsigned_abs cost ≤ h → pos 0 ≤ℤ (pos s *ℤ cost -ℤ y) → y ≤ℤ pos (s * h)
@@ -57,10 +56,6 @@ slope_under n m costs x cost h t i g pure small up =
     under_cost (size n m) 0 h cost (slope n m costs i *ℤ pos t) small (rw (pure_sum n (slope n m costs) x t i g pure) at up)
 
 -- ---- the bound
-natural : (p : ℤ) → pos 0 ≤ℤ p → p ≡ pos (unsigned_abs p)
-natural (pos a) h = refl
-natural (negsuc a) h = absurd (omega (arith, ints, h))
-
 weighed_whole : (p t s w : ℕ) → pos t *ℤ pos p ≡ pos s *ℤ pos w → p * t ≡ s * w
 weighed_whole p t s w e = omega (arith, ints, e)
 
@@ -96,7 +91,7 @@ slope_bounded n low high m costs z w j h spans rows feed light live up small und
     sized (l j) s (z j) w live light (under j h) (one_left s (2 ^ 20) (2 ^ 39) w p (z j) (l j) q le paid same)
 
 -- ---- the entries of the plane
-quotient_below : (a s limit : ℕ) → 0 < s → a < limit * s → a / s < limit
+pub quotient_below : (a s limit : ℕ) → 0 < s → a < limit * s → a / s < limit
 quotient_below a s limit h k = (div-lt_iff_lt-mul h).1 k
 
 pub entry_below : (l : ℤ) (s : ℕ) → 0 < s → unsigned_abs l ≤ 2 ^ 40 * s → unsigned_abs (floor_over (l *ℤ pos (2 ^ 30)) s) < 2 ^ 80

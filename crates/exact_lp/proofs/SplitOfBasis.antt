@@ -1,18 +1,19 @@
 -- The split of a basis is a division of the feed.
-use Rattle.std.proofs.Common.{◌≡◌, ℕ, zero, suc, ◌+◌, ◌*◌, ◌^◌, ◌<◌, ◌≤◌, Bool, true, false, List, [], ◌∷◌, ◌++◌, length, map, get_or, ℤ, pos, negsuc, ◌*ℤ◌, ◌≤ℤ◌, unsigned_abs, slice_index, refl, ap, sym, ◌∙◌, arith}
+use Rattle.std.proofs.Common.{◌≡◌, ℕ, zero, suc, ◌+◌, ◌*◌, ◌^◌, ◌<◌, ◌≤◌, Bool, true, false, List, [], ◌∷◌, ◌++◌, length, length-append, map, get_or, ℤ, pos, ◌*ℤ◌, slice_index, refl, ap, sym, ◌∙◌, arith}
 use Rattle.std.specs.Prelude.{if◌then◌else◌, nat_eq, nat_lt, nat_le, IsTrue, ◌&&◌}
 use Rattle.std.specs.List.{All, list_all}
 use Rattle.std.proofs.lemmas.List.{append-nil}
 use Rattle.std.proofs.lemmas.List.Folds.{list_all-append}
 use Rattle.std.proofs.lemmas.List.Elements.{All-map}
 use Rattle.std.proofs.lemmas.List.Sums.{AllPass-from_list_all}
-use Rattle.case_types.proofs.Exports.{state_of-is_state}
+use Rattle.case_types.proofs.Exports.{state_of-is_state, total_positive}
 use Rattle.exact_lp.proofs.AfterPivot.{spans_above}
 use Rattle.std.proofs.Math.Nat.{mul-pos, mul-le-mul}
 use Rattle.case_types.specs.Ranges.{are_parts, is_packing, is_each_below}
-use Rattle.log_laws.proofs.Exports.{all_below-from, le-sum_below, sum-same, sum-whole}
+use Rattle.log_laws.proofs.Exports.{natural_product, all_below-from, le-sum_below, sum-same, sum-whole}
 use Rattle.std.proofs.lemmas.Int.{ints}
 use Rattle.std.proofs.lemmas.Bool.Decides.{nat_tests}
+use Rattle.std.proofs.lemmas.Bool.{lt-ltb, ltb-true, le-leb, eqb-true}
 use Rattle.log_laws.specs.Sums.{sum_below, all_below}
 use Rattle.case_types.specs.declared.cases.Case.{Case}
 use Rattle.case_types.specs.declared.phases.Phase.{Phase}
@@ -26,29 +27,22 @@ use Rattle.energy_surface.specs.Program.Splits.{weight_of, live_part, weighted_p
 use Rattle.exact_lp.proofs.DeterminantRules.{by_count, by_place}
 use Rattle.exact_lp.specs.Frames.{entry}
 use Rattle.exact_lp.proofs.MachineNumbers.{entry_small}
-use Rattle.exact_lp.proofs.PlaneEntries.{feed_live}
 use Rattle.exact_lp.proofs.Systems.{amounts_make}
 
 parts_in-append : (fs : List Phase) (f : Phase) (i : ℕ) → parts_in (map state_of (fs ++ f ∷ [])) i ≡ parts_in (map state_of fs) i + slice_index f.parts i
 parts_in-append [] f i = omega arith
 parts_in-append (g ∷ fs) f i = rw (parts_in-append fs f i) (omega arith)
 
-pub live_test : (k n : ℕ) → k < n → nat_lt k n ≡ true
-live_test k n h = grind (arith, nat_tests)
-
 part_of_phase : (c : Case) (cols : List Column) (at : List ℕ) (k i : ℕ) → i < c.n → i < 4 → slice_index (weighted_phase c.n (weight_of c cols at k) (column_at cols (slice_index at k))).parts i ≡ weight_of c cols at k * slice_index (column_at cols (slice_index at k)).comp i
 part_of_phase c cols at k i h g =
     by_place (λ i. i < c.n → slice_index (weighted_phase c.n (weight_of c cols at k) (column_at cols (slice_index at k))).parts i ≡ weight_of c cols at k * slice_index (column_at cols (slice_index at k)).comp i)
-    (λ h. rw (live_test 0 c.n h) refl) (λ h. rw (live_test 1 c.n h) refl) (λ h. rw (live_test 2 c.n h) refl) (λ h. rw (live_test 3 c.n h) refl) i g h
-
-pub no_weight : (w : ℕ) → nat_eq w 0 ≡ true → w ≡ 0
-no_weight w h = grind (arith, nat_tests)
+    (λ h. rw (lt-ltb 0 c.n h) refl) (λ h. rw (lt-ltb 1 c.n h) refl) (λ h. rw (lt-ltb 2 c.n h) refl) (λ h. rw (lt-ltb 3 c.n h) refl) i g h
 
 one_phase_more : (c : Case) (cols : List Column) (at : List ℕ) (k i : ℕ) (b : Bool) → nat_eq (weight_of c cols at k) 0 ≡ b → i < c.n → i < 4 → (fs : List Phase) →
     parts_in (map state_of (fs ++ weighted_phases c.n (weight_of c cols at k) (column_at cols (slice_index at k)))) i
     ≡ parts_in (map state_of fs) i + weight_of c cols at k * slice_index (column_at cols (slice_index at k)).comp i
 one_phase_more c cols at k i true e h g fs =
-    rw (e, append-nil fs, no_weight (weight_of c cols at k) e) (omega arith)
+    rw (e, append-nil fs, eqb-true (weight_of c cols at k) 0 e) (omega arith)
 one_phase_more c cols at k i false e h g fs =
     rw e (parts_in-append fs (weighted_phase c.n (weight_of c cols at k) (column_at cols (slice_index at k))) i ∙ ap (λ (t : ℕ). parts_in (map state_of fs) i + t) (part_of_phase c cols at k i h g))
 
@@ -59,10 +53,6 @@ phases_parts c cols at zero i h g = refl
 phases_parts c cols at (suc k) i h g =
     one_phase_more c cols at k i (nat_eq (weight_of c cols at k) 0) refl h g (phases_below c cols at k)
     ∙ ap (λ (t : ℕ). t + weight_of c cols at k * slice_index (column_at cols (slice_index at k)).comp i) (phases_parts c cols at k i h g)
-
-pub natural_product : (a : ℤ) (x : ℕ) → pos 0 ≤ℤ a → a *ℤ pos x ≡ pos (unsigned_abs a * x)
-natural_product (pos a) x h = refl
-natural_product (negsuc a) x h = absurd (omega (arith, ints, h))
 
 pub pos_same : (a b : ℕ) → pos a ≡ pos b → a ≡ b
 pos_same a b h = omega (arith, ints, h)
@@ -84,13 +74,9 @@ basis_split_adds_up c cols at s basis split i h =
     rw (split.sum, split.phases, phases_parts c cols at c.n i h (omega (arith, h, c.few)), weights_make c cols at basis i h) (turn c.total (size c.n (system cols at)) (feed c i))
 
 -- ---- what a split keeps
-length-append : (fs : List Phase) (f : Phase) → length (fs ++ f ∷ []) ≡ length fs + 1
-length-append [] f = refl
-length-append (g ∷ fs) f = rw (length-append fs f) (omega arith)
-
 length_more : (fs : List Phase) (f : Phase) (b : Bool) → length (fs ++ (if b then [] else (f ∷ []))) ≤ length fs + 1
 length_more fs f true = rw (append-nil fs) (omega arith)
-length_more fs f false = rw (length-append fs f) (omega arith)
+length_more fs f false = rw (length-append fs (f ∷ [])) (omega arith)
 
 pub phases_few : (c : Case) (cols : List Column) (at : List ℕ) (k : ℕ) → length (phases_below c cols at k) ≤ k
 unfolding phases_below
@@ -128,11 +114,8 @@ phases_some c cols at basis spans live =
 -- ---- parts and packings of a phase
 live_part_small : (n w : ℕ) (x : List ℕ) (i : ℕ) (b : Bool) → nat_lt i n ≡ b → w ≤ 2 ^ 80 → sum_below n (slice_index x) ≡ 2 ^ 20 → live_part n w x i < 2 ^ 104
 live_part_small n w x i true e h light =
-    rw e (omega (arith, mul-le-mul h (le_light (le-sum_below n i (slice_index x) (below i n e)) light)))
+    rw e (omega (arith, mul-le-mul h (le_light (le-sum_below n i (slice_index x) (ltb-true i n e)) light)))
   where
-    below : (i n : ℕ) → nat_lt i n ≡ true → i < n
-    below i n e = grind (arith, nat_tests)
-
     le_light : slice_index x i ≤ sum_below n (slice_index x) → sum_below n (slice_index x) ≡ 2 ^ 20 → slice_index x i ≤ 2 ^ 20
     le_light h e = omega (arith, h, e)
 live_part_small n w x i false e h light = rw e (omega arith)
@@ -142,12 +125,6 @@ parts_sum : (n : ℕ) → 1 ≤ n → n ≤ 4 → (w : ℕ) (x : List ℕ) →
 parts_sum n low high w x =
     by_count (λ n. sum_below 4 (slice_index (live_part n w x 0 ∷ live_part n w x 1 ∷ live_part n w x 2 ∷ live_part n w x 3 ∷ [])) ≡ w * sum_below n (slice_index x))
     (omega arith) (omega arith) (omega arith) (omega arith) n low high
-
-pub lt_test : (a b : ℕ) → a < b → IsTrue (nat_lt a b)
-lt_test a b h = grind (arith, nat_tests)
-
-le_test : (a b : ℕ) → a ≤ b → IsTrue (nat_le a b)
-le_test a b h = grind (arith, nat_tests)
 
 both_tests : (a b : Bool) → IsTrue a → IsTrue b → IsTrue (a && b)
 both_tests true b h k = k
@@ -164,15 +141,15 @@ phase_has_parts n low high w col some h light =
     both_tests (all_below 4 (λ i. nat_lt (slice_index parts i) (2 ^ 104))) (nat_le 1 (sum_below 4 (slice_index parts)))
     (all_below-from 4 (λ i. nat_lt (slice_index parts i) (2 ^ 104))
     (by_place (λ i. IsTrue (nat_lt (slice_index parts i) (2 ^ 104)))
-    (lt_test _ _ (live_part_small n w x 0 (nat_lt 0 n) refl h light)) (lt_test _ _ (live_part_small n w x 1 (nat_lt 1 n) refl h light))
-    (lt_test _ _ (live_part_small n w x 2 (nat_lt 2 n) refl h light)) (lt_test _ _ (live_part_small n w x 3 (nat_lt 3 n) refl h light))))
-    (le_test _ _ (enough (parts_sum n low high w x)))
+    (lt-ltb _ _ (live_part_small n w x 0 (nat_lt 0 n) refl h light)) (lt-ltb _ _ (live_part_small n w x 1 (nat_lt 1 n) refl h light))
+    (lt-ltb _ _ (live_part_small n w x 2 (nat_lt 2 n) refl h light)) (lt-ltb _ _ (live_part_small n w x 3 (nat_lt 3 n) refl h light))))
+    (le-leb _ _ (enough (parts_sum n low high w x)))
   where
     enough : sum_below 4 (slice_index (weighted_phase n w col).parts) ≡ w * sum_below n (slice_index col.comp) → 1 ≤ sum_below 4 (slice_index (weighted_phase n w col).parts)
     enough e = omega (arith, e, rw light at e, some_weight w some)
 
 pub phase_has_packing : (y : ℕ) → 1 ≤ y → y < 2 ^ 40 → IsTrue (is_packing y)
-phase_has_packing y h k = both_tests (nat_le 1 y) (nat_lt y (2 ^ 40)) (le_test _ _ h) (lt_test _ _ k)
+phase_has_packing y h k = both_tests (nat_le 1 y) (nat_lt y (2 ^ 40)) (le-leb _ _ h) (lt-ltb _ _ k)
 
 pub phases_more : (c : Case) (cols : List Column) (at : List ℕ) (k : ℕ) →
     phases_below c cols at (k + 1) ≡ phases_below c cols at k ++ weighted_phases c.n (weight_of c cols at k) (column_at cols (slice_index at k))
@@ -183,10 +160,6 @@ phases_more c cols at k = let e : k + 1 ≡ suc k = omega arith in rw e refl
 pub weight_read : (c : Case) (cols : List Column) (at : List ℕ) (u : List ℤ) (k : ℕ) → IsTrue (is_each_below 4 u (2 ^ 80 + 1)) → k < 4 →
     entry u k ≡ amount c.n (system cols at) (feed_of c) k → weight_of c cols at k ≤ 2 ^ 80
 weight_read c cols at u k small h e = rw (← e) (omega (arith, entry_small u (2 ^ 80 + 1) k h small))
-
-pub one_mole : (c : Case) → 1 ≤ c.total
-one_mole c =
-    omega (arith, feed_live c 0 (omega (arith, c.some)), le-sum_below c.n 0 (slice_index c.z) (omega (arith, c.some)), c.added)
 
 pub sum_small : (total s : ℕ) → total ≤ 2 ^ 20 → s ≤ 2 ^ 80 → total * s ≤ 2 ^ 100
 sum_small total s h k = mul-le-mul h k
@@ -220,10 +193,7 @@ has_moles : (n : ℕ) → 1 ≤ n → n ≤ 4 → (w : ℕ) (col : Column) → n
     IsTrue (nat_lt 0 (sum_below n (slice_index (weighted_phase n w col).parts)))
 has_moles n low high w col some light =
     let e = rw light at (live_parts_sum n low high w col.comp) in
-    lt_test _ _ (omega (arith, e, some_weight w some))
-
-pub below_from : (a b : ℕ) → IsTrue (nat_lt a b) → a < b
-below_from a b h = grind (arith, nat_tests)
+    lt-ltb _ _ (omega (arith, e, some_weight w some))
 
 phases_are_states : (c : Case) (cols : List Column) (at : List ℕ) → AreColumns c.n cols → IsBasis c cols at → All (IsState c.n) (map state_of (phases_below c cols at c.n))
 phases_are_states c cols at good basis =
@@ -234,11 +204,11 @@ phases_are_states c cols at good basis =
     (λ j h some. has_moles c.n c.some c.few (weight_of c cols at j) (column_at cols (slice_index at j)) some (point j h).whole) in
     All-map (IsState c.n) state_of fs (λ (k : ℕ) (d : Phase) (l : k < length fs).
     state_of-is_state c.n (get_or fs k d) (AllPass-from_list_all (λ (f : Phase). is_packing f.packing) fs packed k d l)
-    (below_from _ _ (AllPass-from_list_all (λ (f : Phase). nat_lt 0 (sum_below c.n (slice_index f.parts))) fs parted k d l)))
+    (ltb-true _ _ (AllPass-from_list_all (λ (f : Phase). nat_lt 0 (sum_below c.n (slice_index f.parts))) fs parted k d l)))
 
 pub basis_split_divides : (c : Case) (cols : List Column) (at : List ℕ) (s : Split) → AreColumns c.n cols → IsBasis c cols at → IsBasisSplit c cols at s → Divides c (division_of s)
 basis_split_divides c cols at s good basis split = record {
-  positive = rw split.sum (mul-pos (one_mole c) (spans_above c cols at basis));
+  positive = rw split.sum (mul-pos (total_positive c) (spans_above c cols at basis));
   phases = rw split.phases (phases_are_states c cols at good basis);
   adds_up = basis_split_adds_up c cols at s basis split;
 }

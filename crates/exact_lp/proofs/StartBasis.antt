@@ -15,12 +15,13 @@ use Rattle.exact_lp.proofs.DeterminantRules.{by_count, by_place, filled-determin
 use Rattle.exact_lp.proofs.Systems.{amounts_make, slopes_meet}
 use Rattle.exact_lp.proofs.SlopeBounds.{pure_sum}
 use Rattle.exact_lp.proofs.LiveParts.{determinant-same}
+use Rattle.std.proofs.lemmas.Bool.{ltb-true}
 
 -- the system of the pure columns
 pure : ℕ → ℕ → ℤ
 pure k i = pos (if nat_eq i k then 2 ^ 20 else 0)
 
-at_start : (k : ℕ) → k < 4 → slice_index start_places k ≡ k
+pub at_start : (k : ℕ) → k < 4 → slice_index start_places k ≡ k
 at_start k h = by_place (λ k. slice_index start_places k ≡ k) refl refl refl refl k h
 
 pure_entry : (c : Case) (cols : List Column) → AreColumns c.n cols → (k i : ℕ) → k < c.n → i < c.n → system cols start_places k i ≡ pure k i
@@ -28,10 +29,7 @@ unfolding pure
 pure_entry c cols good k i h g = rw (at_start k (omega (arith, h, c.few))) (ap pos (good.pure k i h g))
 
 pub filled_same : (n : ℕ) (m p : ℕ → ℕ → ℤ) → ((k i : ℕ) → k < n → i < n → m k i ≡ p k i) → (r c : ℕ) (b d : Bool) → nat_lt r n ≡ b → nat_lt c n ≡ d → filled n m r c ≡ filled n p r c
-filled_same n m p h r c true true e f = rw (e, f) (h r c (inside r n e) (inside c n f))
-  where
-    inside : (r n : ℕ) → nat_lt r n ≡ true → r < n
-    inside r n e = grind (arith, nat_tests)
+filled_same n m p h r c true true e f = rw (e, f) (h r c (ltb-true r n e) (ltb-true c n f))
 filled_same n m p h r c true false e f = rw (e, f) refl
 filled_same n m p h r c false d e f = rw e refl
 

@@ -4,6 +4,7 @@ use Rattle.std.specs.Prelude.{nat_eq, nat_lt}
 use Rattle.std.proofs.Math.Path.{fun_ext}
 use Rattle.std.proofs.lemmas.Int.{ints}
 use Rattle.std.proofs.lemmas.Bool.Decides.{nat_tests}
+use Rattle.std.proofs.lemmas.Bool.{lt-ltb, le-ltb, eqb-true, ne_eqb}
 use Rattle.log_laws.proofs.Exports.{neg-mul, sum-same, sum-neg, times_nothing}
 use Rattle.log_laws.specs.Sums.{int_sum_below}
 use Rattle.energy_surface.specs.Program.Determinants.{determinant, with_row, with_column}
@@ -17,21 +18,9 @@ pub determinant-same : (n : ℕ) (m p : ℕ → ℕ → ℤ) → ((r c : ℕ) �
 determinant-same n m p h = ap (determinant n) (fun_ext (λ r. fun_ext (λ c. h r c)))
 
 -- ---- filled matrices
-inside : (k n : ℕ) → k < n → nat_lt k n ≡ true
-inside k n h = grind (arith, nat_tests)
-
-outside : (k n : ℕ) → n ≤ k → nat_lt k n ≡ false
-outside k n h = grind (arith, nat_tests)
-
-pub same_number : (a b : ℕ) → nat_eq a b ≡ true → a ≡ b
-same_number a b h = grind (arith, nat_tests)
-
-pub other_number : (a b : ℕ) → (a ≡ b → ⊥) → nat_eq a b ≡ false
-other_number a b h = grind (arith, nat_tests)
-
 row_filled : (n : ℕ) (m : ℕ → ℕ → ℤ) (x : ℕ → ℤ) (k : ℕ) → k < n → (r c : ℕ) (b : Bool) → nat_eq r k ≡ b →
     filled n (with_row k x m) r c ≡ with_row k (masked n x) (filled n m) r c
-row_filled n m x k h r c true e = rw (e, inside r n (omega (arith, h, same_number r k e))) refl
+row_filled n m x k h r c true e = rw (e, lt-ltb r n (omega (arith, h, eqb-true r k e))) refl
 row_filled n m x k h r c false e = rw e refl
 
 pub rows_filled : (n : ℕ) (m : ℕ → ℕ → ℤ) (x : ℕ → ℤ) (k : ℕ) → k < n → filled n (with_row k x m) ≡ with_row k (masked n x) (filled n m)
@@ -45,9 +34,9 @@ with_row-filled n low high m x k h =
 
 column_filled : (n : ℕ) (m : ℕ → ℕ → ℤ) (x : ℕ → ℤ) (i : ℕ) → i < n → (r c : ℕ) (b d : Bool) → nat_lt r n ≡ b → nat_eq c i ≡ d →
     filled n (with_column i x m) r c ≡ with_column i (masked n x) (filled n m) r c
-column_filled n m x i h r c true true e f = rw (e, f, inside c n (omega (arith, h, same_number c i f))) refl
+column_filled n m x i h r c true true e f = rw (e, f, lt-ltb c n (omega (arith, h, eqb-true c i f))) refl
 column_filled n m x i h r c true false e f = rw (e, f) refl
-column_filled n m x i h r c false true e f = rw (e, f, other_number r c (λ g. absurd (outside_of (omega (arith, h, g, same_number c i f)) e))) refl
+column_filled n m x i h r c false true e f = rw (e, f, ne_eqb r c (λ g. absurd (outside_of (omega (arith, h, g, eqb-true c i f)) e))) refl
   where
     outside_of : r < n → nat_lt r n ≡ false → ⊥
     outside_of h e = grind (arith, nat_tests)
@@ -61,16 +50,16 @@ with_column-filled n low high m x i h =
 
 -- entries of filled matrices
 entry_inside : (n : ℕ) (m : ℕ → ℕ → ℤ) (r c : ℕ) → r < n → c < n → filled n m r c ≡ m r c
-entry_inside n m r c h k = rw (inside r n h, inside c n k) refl
+entry_inside n m r c h k = rw (lt-ltb r n h, lt-ltb c n k) refl
 
 entry_below : (n : ℕ) (m : ℕ → ℕ → ℤ) (r c : ℕ) → n ≤ r → c < n → filled n m r c ≡ pos 0
-entry_below n m r c h k = rw (outside r n h, other_number r c (λ e. absurd (omega (arith, h, k, e)))) refl
+entry_below n m r c h k = rw (le-ltb r n h, ne_eqb r c (λ e. absurd (omega (arith, h, k, e)))) refl
 
 entry_beside : (n : ℕ) (m : ℕ → ℕ → ℤ) (r c : ℕ) → r < n → n ≤ c → filled n m r c ≡ pos 0
-entry_beside n m r c h k = rw (inside r n h, outside c n k) refl
+entry_beside n m r c h k = rw (lt-ltb r n h, le-ltb c n k) refl
 
 masked_inside : (n : ℕ) (x : ℕ → ℤ) (i : ℕ) → i < n → masked n x i ≡ x i
-masked_inside n x i h = rw (inside i n h) refl
+masked_inside n x i h = rw (lt-ltb i n h) refl
 
 -- ---- Cramer, for one to four
 pub rows_make : (n : ℕ) → 1 ≤ n → n ≤ 4 → (m : ℕ → ℕ → ℤ) (x : ℕ → ℤ) (i : ℕ) → i < n →

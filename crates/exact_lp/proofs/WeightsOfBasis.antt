@@ -1,14 +1,14 @@
 -- The weights of a basis make one mole.
-use Rattle.std.proofs.Common.{◌≡◌, ℕ, ◌*◌, ◌^◌, ◌<◌, ◌≤◌, List, ℤ, pos, ◌*ℤ◌, slice_index, sym, ap, ◌∙◌, arith}
+use Rattle.std.proofs.Common.{◌≡◌, ℕ, ◌*◌, ◌^◌, ◌<◌, ◌≤◌, List, pos, ◌*ℤ◌, slice_index, sym, ap, ◌∙◌, arith}
 use Rattle.log_laws.specs.Sums.{sum_below}
-use Rattle.log_laws.proofs.Exports.{le-sum_below, sum-same, sum-whole}
+use Rattle.log_laws.proofs.Exports.{natural_product, le-sum_below, sum-same, sum-whole}
 use Rattle.case_types.specs.declared.cases.Case.{Case}
 use Rattle.case_types.specs.declared.rounds.Column.{Column}
 use Rattle.energy_surface.specs.Program.Bases.{system, feed_of, AreColumns, IsBasis}
 use Rattle.energy_surface.specs.Program.Solutions.{size, amount}
 use Rattle.energy_surface.specs.Program.Splits.{weight_of}
 use Rattle.exact_lp.proofs.LeavingPlace.{rows_weigh}
-use Rattle.exact_lp.proofs.SplitOfBasis.{natural_product, pos_same}
+use Rattle.exact_lp.proofs.SplitOfBasis.{pos_same}
 use Rattle.exact_lp.proofs.WeighedAmounts.{amounts_weigh}
 
 pub weights_add_up : (c : Case) (cols : List Column) (at : List ℕ) → AreColumns c.n cols → IsBasis c cols at →

@@ -17,6 +17,10 @@ mod pivoting;
 mod planes;
 mod points;
 mod pricing;
+#[cfg(test)]
+mod solved;
+#[cfg(test)]
+mod solved_of_four;
 mod splits;
 #[cfg(test)]
 mod tests;

@@ -12,7 +12,6 @@ pub mod Sums
 pub mod Opposite
 pub mod Weighing
 pub mod Euler
-pub mod Tangent
 pub mod Parts
 pub mod Terms
 pub mod Adding

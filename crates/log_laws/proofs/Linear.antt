@@ -1,5 +1,5 @@
 -- A linear form of fractions that add up to 1 lies between its ends, for every choice of the fractions.
-use Rattle.std.proofs.Common.{◌≡◌, ℕ, zero, suc, ◌+◌, ◌*◌, ◌<◌, ◌≤◌, ◌^◌, ℤ, pos, negsuc, neg_ℤ, ◌+ℤ◌, ◌*ℤ◌, ◌≤ℤ◌, ◌<ℤ◌, arith, refl, lit<, ap}
+use Rattle.std.proofs.Common.{◌≡◌, ℕ, zero, suc, ◌+◌, ◌*◌, ◌<◌, ◌≤◌, ◌^◌, ℤ, pos, negsuc, neg_ℤ, ◌+ℤ◌, ◌*ℤ◌, ◌≤ℤ◌, arith, refl, lit<, ap}
 use Rattle.std.specs.Int.{int_max}
 use Rattle.std.proofs.Math.Nat.{mul-le-mul_left}
 use Rattle.std.proofs.lemmas.Int.{ints, clamps}
@@ -25,10 +25,6 @@ corner (negsuc n) a b q m h k =
     ≤ℤ_trans _ _ _ (rw (scale_scale (negsuc n) a m) (turned n (a * m) q h)) l
 
 -- the end where a step is greater
-pub greater_end-low : (t : ℤ) (a b : ℕ) → a ≤ b → t <ℤ pos 0 → t *ℤ pos a ≡ int_max (t *ℤ pos a) (t *ℤ pos b)
-greater_end-low (pos n) a b h k = absurd (omega (arith, ints, k))
-greater_end-low (negsuc n) a b h k = let e = turned n a b h in omega (arith, ints, clamps, e)
-
 pub greater_end-high : (t : ℤ) (a b : ℕ) → a ≤ b → pos 0 ≤ℤ t → t *ℤ pos b ≡ int_max (t *ℤ pos a) (t *ℤ pos b)
 greater_end-high (pos n) a b h k = let e = mul-le-mul_left n h in omega (arith, ints, clamps, e)
 greater_end-high (negsuc n) a b h k = absurd (omega (arith, ints, k))

@@ -1,5 +1,5 @@
 -- Ring and order laws of whole numbers: scales, floors, ceilings, and products of values between ends.
-use Rattle.std.proofs.Common.{◌≡◌, ℕ, zero, suc, ◌+◌, ◌-◌, ◌*◌, ◌/◌, ◌<◌, ℤ, pos, negsuc, ◌+ℤ◌, ◌-ℤ◌, ◌*ℤ◌, neg_ℤ, ◌≤ℤ◌, ◌<ℤ◌, ◌⊎◌, arith, inl, inr, ap, sym, ◌∙◌}
+use Rattle.std.proofs.Common.{◌≡◌, ℕ, zero, suc, ◌+◌, ◌-◌, ◌*◌, ◌/◌, ◌<◌, ℤ, pos, negsuc, ◌+ℤ◌, ◌*ℤ◌, neg_ℤ, ◌≤ℤ◌, ◌<ℤ◌, ◌⊎◌, arith, inl, inr, ap, sym, ◌∙◌}
 use Rattle.std.proofs.lemmas.Int.{ints}
 use Rattle.std.proofs.Math.IntN.{*ℤ_comm}
 use Rattle.std.proofs.Math.Nat.{mul-le-mul_right, le_of_mul-le-mul_right, div-mul-le_self, lt-div-mul-add, add-mul-div_right, div-eq_of_lt, zero-div}
@@ -71,16 +71,6 @@ pub add_below : (a b p r : ℤ) (q s : ℕ) → p ≤ℤ (a *ℤ pos q) → r �
 add_below a b p r q s h k =
     rw (add-mul_ℤ a b (pos (q * s)), ← scale_scale a q s, ← scale_turned b q s)
     (omega (arith, ints, mul-le_ℤ p (a *ℤ pos q) s h, mul-le_ℤ r (b *ℤ pos s) q k))
-
-pub sub_above : (a b p r : ℤ) (q s : ℕ) → (a *ℤ pos q) ≤ℤ p → r ≤ℤ (b *ℤ pos s) → ((a -ℤ b) *ℤ pos (q * s)) ≤ℤ (p *ℤ pos s -ℤ r *ℤ pos q)
-sub_above a b p r q s h k =
-    rw (add-mul_ℤ a (neg_ℤ b) (pos (q * s)), neg-mul b (pos (q * s)), ← scale_scale a q s, ← scale_turned b q s)
-    (omega (arith, ints, mul-le_ℤ (a *ℤ pos q) p s h, mul-le_ℤ r (b *ℤ pos s) q k))
-
-pub sub_below : (a b p r : ℤ) (q s : ℕ) → p ≤ℤ (a *ℤ pos q) → (b *ℤ pos s) ≤ℤ r → (p *ℤ pos s -ℤ r *ℤ pos q) ≤ℤ ((a -ℤ b) *ℤ pos (q * s))
-sub_below a b p r q s h k =
-    rw (add-mul_ℤ a (neg_ℤ b) (pos (q * s)), neg-mul b (pos (q * s)), ← scale_scale a q s, ← scale_turned b q s)
-    (omega (arith, ints, mul-le_ℤ p (a *ℤ pos q) s h, mul-le_ℤ (b *ℤ pos s) r q k))
 
 -- ---- the four products of the ends
 pub ≤ℤ_trans : (a b c : ℤ) → a ≤ℤ b → b ≤ℤ c → a ≤ℤ c

@@ -52,6 +52,11 @@ power_read l h =
 pub natural : (z : ℤ) → pos 0 ≤ℤ z → z ≡ pos (unsigned_abs z)
 natural z h = omega (arith, ints, h)
 
+-- so is a product with a natural number
+pub natural_product : (z : ℤ) (n : ℕ) → pos 0 ≤ℤ z → z *ℤ pos n ≡ pos (unsigned_abs z * n)
+natural_product (pos a) n h = refl
+natural_product (negsuc a) n h = absurd (omega (arith, ints, h))
+
 -- a number between a limit and its opposite is of a size up to it
 pub abs_within : (z : ℤ) (m : ℕ) → neg_ℤ (pos m) ≤ℤ z → z ≤ℤ pos m → unsigned_abs z ≤ m
 abs_within (pos n) m low high = omega (arith, ints, high)

@@ -4,11 +4,11 @@ use Rattle.std.proofs.Math.IntN.{*ℤ_comm}
 use Rattle.std.proofs.lemmas.Int.{ints}
 use Rattle.std.specs.Prelude.{◌≤ℤ◌}
 use lib.IntN.{ℤ, pos, neg_ℤ, ◌+ℤ◌, ◌*ℤ◌}
-use Rattle.log_laws.specs.Fraction.{Fraction, IsFraction, IsAtMost, negated, sum_of, product_of}
+use Rattle.log_laws.specs.Fraction.{Fraction, IsFraction, IsAtMost, negated, product_of}
 use Rattle.log_laws.specs.LogSum.{Term, LogSum, AtMost, added, scaled, scaled_terms, opposite, opposite_terms, constant}
 use Rattle.log_laws.proofs.Ring.{neg-mul}
 use Rattle.log_laws.proofs.Parts.{IsParts, parts_negated}
-use Rattle.log_laws.proofs.Sums.{at_least_adds, at_least_scales, at_least_lowers, negated-sum_of}
+use Rattle.log_laws.proofs.Sums.{at_least_scales, at_least_lowers, negated-sum_of}
 use Rattle.log_laws.proofs.Opposite.{at_most_is_opposite}
 use Rattle.log_laws.proofs.Terms.{over_den, lowered, at_least_adds_at, constant_at_least}
 
@@ -40,12 +40,6 @@ scaled-opposite c s =
     (scaled-opposite_terms c s.terms) (product-negated c s.rest)
 
 -- ---- upper bounds add, scale and may be raised
-pub at_most_adds : (s t : LogSum) (q r : Fraction) → AtMost s q → AtMost t r → AtMost (added s t) (sum_of q r)
-at_most_adds s t q r x y =
-    (at_most_is_opposite (added s t) (sum_of q r)).1
-    (rw (← opposite-added s t, ← negated-sum_of q r)
-    (at_least_adds (opposite s) (opposite t) (negated q) (negated r) ((at_most_is_opposite s q).0 x) ((at_most_is_opposite t r).0 y)))
-
 pub at_most_scales : (c : Fraction) (s : LogSum) (r : Fraction) → IsFraction c → pos 0 ≤ℤ c.num → AtMost s r → AtMost (scaled c s) (product_of c r)
 at_most_scales c s r h k x =
     (at_most_is_opposite (scaled c s) (product_of c r)).1

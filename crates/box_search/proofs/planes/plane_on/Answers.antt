@@ -1,4 +1,4 @@
-use Rattle.std.proofs.Common.{◌≡◌, ◌∙◌, arith}
+use Rattle.std.proofs.Common.{◌∙◌, arith}
 use Rattle.log_laws.proofs.Exports.{back}
 use Rattle.box_search.proofs.PlaneAt.{plane_on_is}
 use Rattle.box_search.proofs.planes.plane_on.Goals as goal

@@ -1,13 +1,14 @@
 use Rattle.std.proofs.Common.{◌≡◌, ◌+◌, ◌^◌, ◌<◌, ℕ, List, ℤ, pos, neg_ℤ, unsigned_abs, slice_index_or, to_z, of_z, IsTrue, arith, ◌-ℤ◌}
 use Rattle.std.specs.Int.{w128}
 use Rattle.case_types.specs.Ranges.{is_each_below}
-use Rattle.exact_lp.proofs.MachineNumbers.{entry_small, four_small, negated, neg_small}
+use Rattle.exact_lp.proofs.MachineNumbers.{entry_small, four_small, neg_small}
+use Rattle.log_laws.proofs.Exports.{opposite_read}
 use Rattle.exact_lp.proofs.MinorRows.{along_turned}
 use Rattle.exact_lp.proofs.frames.opposite.Goals as goal
 
 turned : (a : List ℤ) (i : ℕ) → i < 4 → IsTrue (is_each_below 4 a (2 ^ 60 + 1)) →
     to_z w128 (of_z w128 (pos 0 -ℤ to_z w128 (of_z w128 (slice_index_or a i (pos 0))))) ≡ neg_ℤ (slice_index_or a i (pos 0))
-turned a i h t = negated (slice_index_or a i (pos 0)) (omega (arith, entry_small a (2 ^ 60 + 1) i h t))
+turned a i h t = opposite_read (slice_index_or a i (pos 0)) (omega (arith, entry_small a (2 ^ 60 + 1) i h t))
 
 turned_small : (a : List ℤ) (i : ℕ) → i < 4 → IsTrue (is_each_below 4 a (2 ^ 60 + 1)) → unsigned_abs (neg_ℤ (slice_index_or a i (pos 0))) < 2 ^ 60 + 1
 turned_small a i h t = neg_small (slice_index_or a i (pos 0)) (2 ^ 60 + 1) (entry_small a (2 ^ 60 + 1) i h t)

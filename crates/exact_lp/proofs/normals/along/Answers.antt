@@ -1,12 +1,12 @@
-use Rattle.std.proofs.Common.{◌≡◌, ℕ, List, ◌+◌, ◌*◌, ◌^◌, ◌<◌, ◌≤◌, ℤ, pos, ◌+ℤ◌, ◌*ℤ◌, arith, unsigned_abs, slice_index, slice_index_or, to_z, of_z, FitsSigned, rules, ◌∙◌}
+use Rattle.std.proofs.Common.{◌≡◌, ℕ, List, ◌+◌, ◌*◌, ◌^◌, ◌<◌, ◌≤◌, ℤ, pos, ◌*ℤ◌, arith, unsigned_abs, slice_index, slice_index_or, to_z, of_z, FitsSigned, rules, ◌∙◌}
 use Rattle.std.specs.Int.{w128}
-use Rattle.std.proofs.lemmas.Int.{ints}
 use Rattle.log_laws.specs.Sums.{int_sum_below}
 use Rattle.exact_lp.specs.Frames.{along}
 use Rattle.exact_lp.specs.declared.normals.Row.{Row}
 use Rattle.log_laws.proofs.Exports.{back}
 use Rattle.exact_lp.proofs.MachineNumbers.{read, entry_small, product_small}
 use Rattle.exact_lp.proofs.normals.along.Goals as goal
+use Rattle.exact_lp.proofs.LiveParts.{from_nothing}
 
 entry_read : (r : Row) (i : ℕ) → i < 4 → to_z w128 (of_z w128 (slice_index_or r.a i (pos 0))) ≡ slice_index_or r.a i (pos 0)
 entry_read r i h = back (slice_index_or r.a i (pos 0)) (omega (arith, entry_small r.a (2 ^ 101 + 1) i h r.small))
@@ -16,9 +16,6 @@ entry_light r i x h = product_small (unsigned_abs (slice_index_or r.a i (pos 0))
 
 abbrev term : Row → List ℕ → ℕ → ℤ
 term r x i = slice_index_or r.a i (pos 0) *ℤ pos (slice_index x i)
-
-from_nothing : (a b c d : ℤ) → ((a +ℤ b) +ℤ c) +ℤ d ≡ (((pos 0 +ℤ a) +ℤ b) +ℤ c) +ℤ d
-from_nothing a b c d = omega (arith, ints)
 
 pub sum_of_products-requires : goal.sum_of_products-requires
 sum_of_products-requires c =

@@ -1,10 +1,7 @@
 use Rattle.std.proofs.Common.{ℕ, ◌+◌, ◌*◌, ◌/◌, ◌%◌, ◌^◌, ◌<◌, ◌≤◌, sym, arith}
-use Rattle.std.proofs.Math.Nat.{div-lt_iff_lt-mul}
 use Rattle.log_laws.proofs.Exports.{scaled_quotient}
 use Rattle.exact_lp.proofs.planes.scaled_quotient.Goals as goal
-
-quotient_below : (a s limit : ℕ) → 0 < s → a < limit * s → a / s < limit
-quotient_below a s limit h k = (div-lt_iff_lt-mul h).1 k
+use Rattle.exact_lp.proofs.SlopeBounds.{quotient_below}
 
 whole : (a s : ℕ) → 1 ≤ s → a ≤ 2 ^ 41 * s → a / s < 2 ^ 41 + 1
 whole a s h k = quotient_below a s (2 ^ 41 + 1) (omega (arith, h)) (omega (arith, h, k))

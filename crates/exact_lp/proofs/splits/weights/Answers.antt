@@ -1,14 +1,14 @@
-use Rattle.std.proofs.Common.{◌≡◌, ℕ, ◌+◌, ◌*◌, ◌^◌, ◌<◌, ◌≤◌, List, [], ◌∷◌, pos, unsigned_abs, slice_index, slice_index_or, sym, ap, ◌∙◌, arith, rules}
+use Rattle.std.proofs.Common.{◌≡◌, ℕ, ◌+◌, ◌*◌, ◌^◌, ◌<◌, [], ◌∷◌, unsigned_abs, slice_index, ap, ◌∙◌, arith, rules}
 use Rattle.std.proofs.Math.Nat.{mul-pos}
 use Rattle.energy_surface.specs.Program.Bases.{system}
-use Rattle.energy_surface.specs.Program.Splits.{weight_of}
 use Rattle.exact_lp.specs.Frames.{entry}
 use Rattle.exact_lp.proofs.DeterminantRules.{by_place}
 use Rattle.exact_lp.proofs.MachineNumbers.{read, entry_fits}
 use Rattle.exact_lp.proofs.LiveParts.{frame_size}
 use Rattle.exact_lp.proofs.AfterPivot.{spans_above}
 use Rattle.exact_lp.proofs.LeavingPlace.{entry_of}
-use Rattle.exact_lp.proofs.SplitOfBasis.{weight_read, one_mole, sum_small, sum_fits}
+use Rattle.exact_lp.proofs.SplitOfBasis.{weight_read, sum_small, sum_fits}
+use Rattle.case_types.proofs.Exports.{total_positive}
 use Rattle.exact_lp.proofs.WeightsOfBasis.{weight_within}
 use Rattle.exact_lp.proofs.splits.weights.Goals as goal
 use Rattle.exact_lp.proofs.splits.weights.Goals.{After-unsigned_abs-4}
@@ -41,7 +41,7 @@ returns c =
     let weights = λ (k : ℕ) (h : k < v.n). sizes (goal.at.returns c).After-unsigned_abs-4 k (omega (arith, h, v.few)) ∙ ap unsigned_abs (amounts k h) in
     record {
       sum = ap (λ (t : ℕ). v.total * t) s;
-      some = mul-pos (one_mole v) some;
+      some = mul-pos (total_positive v) some;
       small = omega (arith, sum_small v.total f.size v.total_high f.size_small);
       weights = weights;
       within = λ k h. rw (weights k h, s) (weight_within v cols at c.requires.columns c.requires.basis k h);

@@ -1,4 +1,4 @@
-use Rattle.std.proofs.Common.{◌≡◌, ℤ, to_z, of_z, rules}
+use Rattle.std.proofs.Common.{◌≡◌, to_z, of_z, rules}
 use mir.Syntax.{w128}
 use Rattle.split_energies.proofs.splits.weighed_energy.Goals as goal
 
