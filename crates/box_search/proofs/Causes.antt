@@ -1,6 +1,5 @@
 -- Why a cell has its letter, and why a search ends at it.
-use Rattle.std.proofs.Common.{◌≡◌, ℕ, ◌+◌, ◌/◌, ◌^◌, ◌≤◌, ◌<◌, ◌-◌, ◌⊎◌, inl, inr, refl, ◌||◌, nat_lt, ◌==◌, Bool, true, false, if◌then◌else◌, Some, None, ℤ, neg_ℤ, ◌<ℤ◌, unsigned_abs, IsTrue, IsFalse, arith, to_z, of_z, ◌-ℤ◌}
-use Rattle.std.specs.Int.{w128}
+use Rattle.std.proofs.Common.{◌≡◌, ℕ, ◌+◌, ◌/◌, ◌^◌, ◌≤◌, ◌<◌, ◌-◌, ◌⊎◌, inl, inr, refl, ◌||◌, nat_lt, ◌==◌, Bool, true, false, if◌then◌else◌, Some, None, neg_ℤ, ◌<ℤ◌, IsTrue, IsFalse, arith}
 use Rattle.std.proofs.lemmas.Bool.{cases_lt}
 use Rattle.std.proofs.lemmas.Int.{ints}
 use Rattle.case_types.specs.declared.rounds.Column.{Column}
@@ -61,11 +60,6 @@ edge_named n k r edge e f = rw (e, ← f) refl
 pub edge_inside : (n edge : ℕ) → n ≤ 4 → (edge < n - 1) ⊎ (edge ≡ 3) → edge ≤ 3
 edge_inside n edge few (inl less) = omega (arith, few, less)
 edge_inside n edge few (inr packing) = omega (arith, packing)
-
--- a difference of small numbers is read back as it is
-pub difference_read : (a b : ℤ) → unsigned_abs a < 2 ^ 120 → unsigned_abs b < 2 ^ 120 →
-    to_z w128 (of_z w128 (to_z w128 (of_z w128 a) -ℤ to_z w128 (of_z w128 b))) ≡ a -ℤ b
-difference_read a b h g = omega (arith, ints, h, g)
 
 -- what isn't spent has a unit left
 pub unspent : (spent budget : ℕ) → spent ≤ budget → (spent ≡ budget → ⊥) → spent < budget

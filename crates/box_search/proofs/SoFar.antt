@@ -3,7 +3,7 @@ use Rattle.std.proofs.Common.{◌≡◌, ℕ, zero, suc, ◌+◌, ◌^◌, ◌�
 use Rattle.std.proofs.lemmas.Int.{ints}
 use Rattle.std.proofs.lemmas.List.{append-nil, map-append}
 use Rattle.case_types.specs.declared.cells.Cell.{Cell}
-use Rattle.case_types.specs.Grid.Cells.{Region, region_of, root_region, lower_half, upper_half, misses, packing_edge, cut, Mark, Misses, Plain, Sloped, Tree, Leaf, Node, Step, Ends, Halves, Visit, visits, letter_of, letters_of, HasVisit}
+use Rattle.case_types.specs.Grid.Cells.{Region, region_of, root_region, lower_half, upper_half, misses, packing_edge, cut, Misses, Plain, Sloped, Tree, Leaf, Node, Step, Ends, Halves, Visit, visits, letter_of, letters_of, HasVisit}
 use Rattle.case_types.specs.Grid.Visits.{EachVisit, left_visit, edges_in}
 use Rattle.case_types.proofs.Exports.{total, has-left, has-right, each-append, edges-append}
 use Rattle.energy_surface.proofs.Exports.{each_over_less}
@@ -14,33 +14,7 @@ use Rattle.box_search.specs.Written.{IsLeastFrom, Closes, Searches}
 use Rattle.energy_surface.specs.Surfaces.{Surface, Under, plain_low}
 use Rattle.energy_surface.specs.Searches.{HaveCauses, HasStepCause, IsStepOver, IsStepAt, IsLeastLow, HasLeastLow, HasEndCause, WantsUnit, IsGrainOf, closing, low_of}
 use Rattle.log_laws.proofs.Exports.{abs_within}
-
--- ---- the visits of one tree for each cell, in turn
-unfoldable pub Finishes : List Region → List Visit → Type 0
-Finishes [] rest = rest ≡ []
-Finishes (r ∷ below) rest = (t : Tree) × (more : List Visit) × (rest ≡ visits t r ++ more) × Finishes below more
-
-finish_leaf : (mark : Mark) (r : Region) (below : List Region) (rest : List Visit) → Finishes below rest →
-    Finishes (r ∷ below) (record { region = r; step = Ends mark } ∷ rest)
-unfolding Finishes visits
-finish_leaf mark r below rest f = (Leaf mark, rest, refl, f)
-
-finish_halved : (edge : ℕ) (r : Region) (below : List Region) (rest : List Visit) → Finishes (lower_half edge r ∷ upper_half edge r ∷ below) rest →
-    Finishes (r ∷ below) (record { region = r; step = Halves edge } ∷ rest)
-unfolding Finishes visits
-finish_halved edge r below rest f = (
-  Node edge f.0 f.3.0,
-  f.3.1,
-  ap (λ vs. record { region = r; step = Halves edge } ∷ vs)
-      (f.2 ∙ ap (λ vs. visits f.0 (lower_half edge r) ++ vs) f.3.2 ∙ sym (append_assoc (visits f.0 (lower_half edge r)) (visits f.3.0 (upper_half edge r)) f.3.1)),
-  f.3.3,
-)
-
--- leaves finish any cells
-finish_all : (n : ℕ) (left : List Region) → Finishes left (map (left_visit n) left)
-unfolding Finishes
-finish_all n [] = refl
-finish_all n (r ∷ below) = finish_leaf _ r below (map (left_visit n) below) (finish_all n below)
+use Rattle.box_search.proofs.Finishing.{Finishes, finish_leaf, finish_halved, finish_all}
 
 -- ---- leaves
 abbrev pub plain_visit : Region → Visit

@@ -4,6 +4,8 @@
 //! the half is looked at.
 #![tactic(auto)]
 
+#[cfg(test)]
+mod bowls;
 mod domain;
 mod halves;
 mod looks;
@@ -15,6 +17,8 @@ mod searching;
 mod stack;
 #[cfg(test)]
 mod tests;
+#[cfg(test)]
+mod trials;
 
 pub use domain::whole_low;
 pub use planes::plane_sum;

@@ -25,12 +25,13 @@ use Rattle.energy_surface.specs.Program.Solutions.{size}
 use Rattle.energy_surface.specs.Program.Splits.{weighted_phase, weighted_phases, weight_of, phases_below}
 use Rattle.energy_surface.specs.Rounds.{basis_up}
 use Rattle.energy_surface.specs.Surfaces.{Surface}
-use Rattle.exact_lp.proofs.Exports.{spans_above, up_of_column, phases_small, phases_up-append, basis_split_divides, live_parts_sum, no_weight, some_weight, phase_has_packing}
+use Rattle.exact_lp.proofs.Exports.{spans_above, up_of_column, phases_small, phases_up-append, basis_split_divides, live_parts_sum, some_weight, phase_has_packing}
 use Rattle.surface_rounds.specs.declared.choices.Choice.{Choice}
 use Rattle.surface_rounds.specs.declared.choices.Choice.TheVariants.{OnePhase, OfBasis}
 use Rattle.surface_rounds.specs.declared.choices.Chosen.{Chosen}
 use Rattle.surface_rounds.specs.Choices.{chosen, columns_up, feed_phase, IsOnePhase, IsSplitBy}
 use Rattle.surface_rounds.proofs.FeedPhase.{feed_part_of, feed_parts_sum, feed_box_is}
+use Rattle.std.proofs.lemmas.Bool.{eqb-true}
 
 -- ---- shares of nothing and of all
 ceiling_of : (u : ℤ) → ceil_over (pos (2 ^ 60) *ℤ u) (2 ^ 60) ≡ u
@@ -81,7 +82,7 @@ module _ (s : Surface) (c : Case) (cols : List Column) (at : List ℕ) (count : 
       +ℤ share_of_energy (weight_of c cols at k * 2 ^ 20) (c.total * size c.n (system cols at)) (column_at cols (slice_index at k)).up
   one_more k true e h fs =
       let q = c.total * size c.n (system cols at) in
-      rw (e, append-nil fs, no_weight (weight_of c cols at k) e, no_share q (column_at cols (slice_index at k)).up whole_some) (no_more (phases_up s.count s.up q fs))
+      rw (e, append-nil fs, eqb-true (weight_of c cols at k) 0 e, no_share q (column_at cols (slice_index at k)).up whole_some) (no_more (phases_up s.count s.up q fs))
   one_more k false e h fs =
       let q = c.total * size c.n (system cols at) in
       let w = weight_of c cols at k in

@@ -2,7 +2,7 @@
 use Rattle.std.proofs.Common.{◌≡◌, ℕ, zero, suc, ◌*◌, ◌^◌, ◌<◌, ◌≤◌, Bool, true, false, cond, [], ◌∷◌, slice_index, refl, sym, ◌∙◌, arith}
 use Rattle.std.specs.Prelude.{if◌then◌else◌, nat_lt, nat_le, IsTrue}
 use Rattle.std.specs.List.{list_all}
-use Rattle.std.proofs.lemmas.Bool.Decides.{nat_tests}
+use Rattle.std.proofs.lemmas.Bool.{lt-ltb, ltb-true, le-leb}
 use Rattle.log_laws.specs.Sums.{sum_below, list_below}
 use Rattle.log_laws.proofs.Exports.{le-sum_below, sum_below-fewer, sum_below-scaled_same}
 use Rattle.case_types.specs.declared.cases.Case.{Case}
@@ -13,14 +13,11 @@ use Rattle.case_types.proofs.Exports.{box_same, total_positive}
 use Rattle.surface_rounds.specs.Choices.{feed_part, feed_phase}
 
 -- ---- its parts
-live_test : (i n : ℕ) → i < n → nat_lt i n ≡ true
-live_test i n h = grind (arith, nat_tests, h)
-
 pub feed_part_of : (c : Case) (y i : ℕ) → i < c.n → slice_index (feed_phase c y).parts i ≡ slice_index c.z i
-feed_part_of c y zero h = rw (live_test 0 c.n h) refl
-feed_part_of c y (suc zero) h = rw (live_test 1 c.n h) refl
-feed_part_of c y (suc (suc zero)) h = rw (live_test 2 c.n h) refl
-feed_part_of c y (suc (suc (suc zero))) h = rw (live_test 3 c.n h) refl
+feed_part_of c y zero h = rw (lt-ltb 0 c.n h) refl
+feed_part_of c y (suc zero) h = rw (lt-ltb 1 c.n h) refl
+feed_part_of c y (suc (suc zero)) h = rw (lt-ltb 2 c.n h) refl
+feed_part_of c y (suc (suc (suc zero))) h = rw (lt-ltb 3 c.n h) refl
 feed_part_of c y (suc (suc (suc (suc i)))) h = absurd (omega (arith, h, c.few))
 
 pub feed_parts_sum : (c : Case) (y : ℕ) → sum_below c.n (slice_index (feed_phase c y).parts) ≡ c.total
@@ -57,30 +54,21 @@ feed_box_is c y =
 -- ---- its parts are those of a phase
 feed_part_small : (c : Case) (i : ℕ) (b : Bool) → nat_lt i c.n ≡ b → feed_part c i < 2 ^ 104
 feed_part_small c i true e =
-    let part = le-sum_below c.n i (slice_index c.z) (under i c.n e) in
+    let part = le-sum_below c.n i (slice_index c.z) (ltb-true i c.n e) in
     rw e (omega (arith, part, c.added, c.total_high))
-  where
-    under : (i n : ℕ) → nat_lt i n ≡ true → i < n
-    under i n e = grind (arith, nat_tests, e)
 feed_part_small c i false e = rw e (omega arith)
 
 pub feed_has_parts : (c : Case) (y : ℕ) → IsTrue (are_parts (feed_phase c y).parts)
 feed_has_parts c y = rw (many, below 0, below 1, below 2, below 3) refl
   where
-    test : (a b : ℕ) → a < b → nat_lt a b ≡ true
-    test a b h = grind (arith, nat_tests, h)
-
-    one_test : (a : ℕ) → 1 ≤ a → nat_le 1 a ≡ true
-    one_test a h = grind (arith, nat_tests, h)
-
     below : (i : ℕ) → nat_lt (feed_part c i) (2 ^ 104) ≡ true
-    below i = test (feed_part c i) (2 ^ 104) (feed_part_small c i (nat_lt i c.n) refl)
+    below i = lt-ltb (feed_part c i) (2 ^ 104) (feed_part_small c i (nat_lt i c.n) refl)
 
     enough : sum_below c.n (slice_index (feed_phase c y).parts) ≤ sum_below 4 (slice_index (feed_phase c y).parts) → 1 ≤ sum_below 4 (slice_index (feed_phase c y).parts)
     enough h = omega (arith, h, feed_parts_sum c y, total_positive c)
 
     many : nat_le 1 (sum_below 4 (slice_index (feed_phase c y).parts)) ≡ true
-    many = one_test (sum_below 4 (slice_index (feed_phase c y).parts)) (enough (sum_below-fewer c.n 4 (slice_index (feed_phase c y).parts) c.few))
+    many = le-leb 1 (sum_below 4 (slice_index (feed_phase c y).parts)) (enough (sum_below-fewer c.n 4 (slice_index (feed_phase c y).parts) c.few))
 
 pub one_passes : (p : Phase → Bool) (f : Phase) → IsTrue (p f) → IsTrue (list_all p (f ∷ []))
 one_passes p f h = rw h refl

@@ -1,5 +1,5 @@
 -- Under the plane of the pure components the whole domain is open, once a plane was cut off.
-use Rattle.std.proofs.Common.{◌≡◌, ℕ, zero, suc, ◌+◌, ◌<◌, ◌≤◌, List, [], ◌∷◌, ◌++◌, length, ℤ, pos, neg_ℤ, ◌≤ℤ◌, ◌<ℤ◌, slice_index, refl, subst, sym, ap, ◌∙◌, inl, inr, arith}
+use Rattle.std.proofs.Common.{◌≡◌, ℕ, List, [], ◌∷◌, ◌++◌, length, ℤ, pos, neg_ℤ, ◌≤ℤ◌, ◌<ℤ◌, subst, sym, ap, ◌∙◌, inl, inr, arith}
 use Rattle.std.proofs.lemmas.Int.{ints}
 use Rattle.case_types.specs.declared.cases.Case.{Case}
 use Rattle.case_types.specs.declared.pivots.Pivot.{Pivot}
@@ -10,7 +10,7 @@ use Rattle.energy_surface.specs.Program.Bases.{column_at, start_places, AreColum
 use Rattle.energy_surface.specs.Program.Pivots.{IsEntering, IsOptimal, ArePivots, price_of}
 use Rattle.energy_surface.specs.Program.Planes.{plane_of}
 use Rattle.energy_surface.specs.Surfaces.{Surface, plain_low}
-use Rattle.exact_lp.proofs.Exports.{plane_kept, start_is_optimal}
+use Rattle.exact_lp.proofs.Exports.{at_start, plane_kept, start_is_optimal}
 use Rattle.surface_rounds.specs.Flashing.{IsBegun}
 use Rattle.surface_rounds.proofs.Pivoting.{none_at_optimum}
 
@@ -34,18 +34,11 @@ open_where_one_enters s c tol cols at to vs enter good begun pivots wanted =
     not_both : (z : ℤ) → pos 0 ≤ℤ z → z <ℤ pos 0 → ⊥
     not_both z h k = omega (arith, ints, h, k)
 
-first_places : (k : ℕ) → k < 4 → slice_index start_places k ≡ k
-first_places zero h = refl
-first_places (suc zero) h = refl
-first_places (suc (suc zero)) h = refl
-first_places (suc (suc (suc zero))) h = refl
-first_places (suc (suc (suc (suc k)))) h = absurd (omega (arith, h))
-
 -- with one column more
 pub open_on : (s : Surface) (c : Case) (tol : ℕ) (cols new : List Column) (kept : Column) (lam : List ℤ) (at to : List ℕ) (vs : List Pivot) → AreColumns c.n cols → IsBegun s c tol cols at → ArePivots c cols at vs to →
     lam ≡ plane_of c.n cols to → plain_low s lam (root_region s.count) <ℤ neg_ℤ (delta_of tol) → new ≡ cols ++ kept ∷ [] → IsBegun s c tol new to
 open_on s c tol cols new kept lam at to vs good begun pivots tangent low more =
-    inr (rw (more, plane_kept c.n c.some c.few cols kept start_places (λ k h. rw (first_places k (omega (arith, h, c.few))) (omega (arith, h, good.enough)))) known)
+    inr (rw (more, plane_kept c.n c.some c.few cols kept start_places (λ k h. rw (at_start k (omega (arith, h, c.few))) (omega (arith, h, good.enough)))) known)
   where
     known : plain_low s (plane_of c.n cols start_places) (root_region s.count) <ℤ neg_ℤ (delta_of tol)
     known =

@@ -1,7 +1,6 @@
 -- A flash so far, and what pivots and rounds make of it.
-use Rattle.std.proofs.Common.{◌≡◌, ℕ, ◌+◌, ◌-◌, ◌<◌, ◌≤◌, List, [], ◌∷◌, ◌++◌, length, Some, ℤ, neg_ℤ, ◌+ℤ◌, ◌≤ℤ◌, refl, sym, ap, ◌∙◌, inl, inr, subst, arith, length-append, slice_index}
-use Rattle.std.specs.Prelude.{slice_get, slice_range, take}
-use Rattle.std.specs.List.{All}
+use Rattle.std.proofs.Common.{◌≡◌, ℕ, ◌+◌, ◌≤◌, List, [], ◌∷◌, ◌++◌, length, Some, ℤ, ◌+ℤ◌, ◌≤ℤ◌, refl, sym, ap, ◌∙◌, inl, inr, subst, arith, length-append}
+use Rattle.std.specs.Prelude.{slice_range}
 use Rattle.std.proofs.lemmas.List.{append-nil}
 use Rattle.std.proofs.lemmas.List.Elements.{All-push}
 use Rattle.std.proofs.Math.Seq.{take-append_seam, take-length}
@@ -14,17 +13,17 @@ use Rattle.case_types.specs.declared.rounds.Column.{Column}
 use Rattle.case_types.specs.declared.rounds.Round.{Round}
 use Rattle.case_types.specs.declared.rounds.RoundEnd.TheVariants as Ends
 use Rattle.case_types.specs.Grid.Cells.{root_region}
-use Rattle.case_types.specs.Grid.Visits.{OfHand, edges_in}
+use Rattle.case_types.specs.Grid.Visits.{OfHand}
 use Rattle.case_types.proofs.Exports.{edges-append}
 use Rattle.energy_surface.specs.declared.found.Found.{Found}
 use Rattle.energy_surface.specs.declared.found.Found.TheVariants.{AllClear, Refuted, Spent, Grain}
 use Rattle.energy_surface.specs.Columns.{IsColumn}
 use Rattle.energy_surface.specs.Lawful.{IsListOfWork, beginning}
 use Rattle.energy_surface.specs.Outcomes.{delta_of}
-use Rattle.energy_surface.specs.Program.Bases.{column_at, start_places, IsBasis}
+use Rattle.energy_surface.specs.Program.Bases.{start_places, IsBasis}
 use Rattle.energy_surface.specs.Program.Pivots.{IsEntering, IsOptimal, ArePivots}
 use Rattle.energy_surface.specs.Program.Planes.{plane_of}
-use Rattle.energy_surface.specs.Rounds.{Start, Own, own_of, round_end, slack_of, basis_up, IsNearScan, IsRound, AreRefuted, after}
+use Rattle.energy_surface.specs.Rounds.{Start, own_of, round_end, slack_of, basis_up, IsNearScan, IsRound, AreRefuted, after}
 use Rattle.energy_surface.specs.Searches.{IsCutOff, low_of}
 use Rattle.energy_surface.specs.Surfaces.{Surface, under, plain_low}
 use Rattle.energy_surface.proofs.Exports.{cuts_off}

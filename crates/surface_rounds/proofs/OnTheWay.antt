@@ -1,5 +1,5 @@
 -- A round from its pivots to its end.
-use Rattle.std.proofs.Common.{◌≡◌, ℕ, ◌+◌, ◌-◌, ◌^◌, ◌<◌, ◌≤◌, length, Option, Some, None, List, [], ◌∷◌, ◌++◌, ℤ, pos, neg_ℤ, ◌+ℤ◌, ◌≤ℤ◌, ◌<ℤ◌, unsigned_abs, refl, sym, ap, ◌∙◌, subst, arith, length-append}
+use Rattle.std.proofs.Common.{◌≡◌, ℕ, ◌+◌, ◌-◌, ◌^◌, ◌<◌, ◌≤◌, length, Option, Some, None, List, ℤ, pos, neg_ℤ, ◌+ℤ◌, ◌≤ℤ◌, ◌<ℤ◌, unsigned_abs, subst, arith, length-append}
 use Rattle.std.specs.List.{All}
 use Rattle.std.proofs.lemmas.Int.{ints}
 use Rattle.std.proofs.lemmas.List.Elements.{All-weaker}
@@ -13,10 +13,10 @@ use Rattle.case_types.specs.declared.units.Units.{Units}
 use Rattle.case_types.specs.Arithmetic.Bounds.{box_of_parts}
 use Rattle.case_types.specs.Grid.Cells.{Tree, visits, root_region}
 use Rattle.energy_surface.specs.declared.found.Found.{Found}
-use Rattle.energy_surface.specs.declared.found.Found.TheVariants.{AllClear, Refuted, Spent, Grain}
+use Rattle.energy_surface.specs.declared.found.Found.TheVariants.{Refuted, Spent}
 use Rattle.energy_surface.specs.Columns.{IsColumn}
 use Rattle.energy_surface.specs.Outcomes.{delta_of}
-use Rattle.energy_surface.specs.Program.Bases.{column_at, start_places, AreColumns, IsBasis}
+use Rattle.energy_surface.specs.Program.Bases.{start_places, AreColumns, IsBasis}
 use Rattle.energy_surface.specs.Program.Pivots.{IsEntering, IsOptimal}
 use Rattle.energy_surface.specs.Program.Planes.{plane_of}
 use Rattle.energy_surface.specs.Rounds.{slack_of, basis_up, IsNearScan}
@@ -28,9 +28,8 @@ use Rattle.exact_lp.proofs.Exports.{columns_kept}
 use Rattle.box_search.specs.Found.{IsFound}
 use Rattle.surface_rounds.specs.declared.choices.Chosen.{Chosen}
 use Rattle.surface_rounds.specs.declared.scans.Scanned.{Scanned}
-use Rattle.surface_rounds.specs.declared.stages.Stage.{Stage}
 use Rattle.surface_rounds.specs.Choices.{chosen, columns_up}
-use Rattle.surface_rounds.specs.Flashing.{AreKept, IsFlashing, IsBegun, IsBetweenRounds, IsAfterRounds, IsAfterRound, Pivoted}
+use Rattle.surface_rounds.specs.Flashing.{AreKept, IsFlashing, IsBetweenRounds, IsAfterRounds, Pivoted}
 use Rattle.surface_rounds.specs.Noted.{MakesRound}
 use Rattle.surface_rounds.specs.Room.{HasRoom, IsCounted}
 use Rattle.surface_rounds.specs.Scanned.{IsScanned}

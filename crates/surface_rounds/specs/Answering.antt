@@ -1,5 +1,5 @@
 -- The answer of a flash by what is in hand when it ends.
-use Rattle.std.specs.Prelude.{ℕ, ◌≡◌, Some, ℤ, ◌-ℤ◌}
+use Rattle.std.specs.Prelude.{ℕ, ◌≡◌, Some, ◌-ℤ◌}
 use Rattle.case_types.specs.declared.answers.Answer.{Answer}
 use Rattle.case_types.specs.declared.answers.Work.{Work}
 use Rattle.case_types.specs.declared.cases.Case.{Case}

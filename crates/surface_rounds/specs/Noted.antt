@@ -1,8 +1,7 @@
 -- What a round leaves in the lists of work.
-use Rattle.std.specs.Prelude.{ℕ, ◌≡◌, ◌-◌, List, [], ◌∷◌, ◌++◌, length, ℤ}
+use Rattle.std.specs.Prelude.{ℕ, ◌≡◌, List, [], ◌∷◌, ◌++◌, length, ℤ}
 use Rattle.case_types.specs.Spared.{Spared}
 use Rattle.case_types.specs.declared.answers.Work.{Work}
-use Rattle.case_types.specs.declared.pivots.Pivot.{Pivot}
 use Rattle.case_types.specs.declared.planes.Plane.{Plane}
 use Rattle.case_types.specs.declared.rounds.Column.{Column}
 use Rattle.case_types.specs.declared.rounds.Round.{Round}

@@ -1,6 +1,4 @@
-use Rattle.std.proofs.Common.{◌≡◌, ◌^◌, ◌≤◌, Some, ℤ, ◌-ℤ◌, to_z, of_z, unsigned_abs, FitsSigned, refl, ap, ◌∙◌, sym, arith}
-use Rattle.std.specs.Int.{w128}
-use Rattle.std.proofs.lemmas.Int.{ints, fits_signed_from_abs}
+use Rattle.std.proofs.Common.{◌≡◌, ◌^◌, ◌≤◌, Some, unsigned_abs, refl, ◌∙◌, arith}
 use Rattle.log_laws.proofs.Exports.{back}
 use Rattle.energy_surface.specs.Outcomes.{outcome_of}
 use Rattle.energy_surface.specs.Searches.{low_of}

@@ -1,4 +1,4 @@
-use Rattle.std.proofs.Common.{◌≡◌, ◌^◌, ◌≤◌, unsigned_abs, ◌∙◌, arith}
+use Rattle.std.proofs.Common.{◌∙◌, arith}
 use Rattle.log_laws.proofs.Exports.{back}
 use Rattle.case_types.proofs.Exports.{total_positive}
 use Rattle.surface_rounds.proofs.Answered.{plane_at_feed}

@@ -1,8 +1,8 @@
-use Rattle.std.proofs.Common.{◌≡◌, ℕ, ◌+◌, ◌^◌, ◌<◌, length, Some, refl, ap, ◌∙◌, sym, subst, inl, arith}
+use Rattle.std.proofs.Common.{◌≡◌, length, ap, ◌∙◌, sym, subst, inl, arith}
 use Rattle.case_types.specs.Arithmetic.Bounds.{box_of_parts}
 use Rattle.energy_surface.specs.Program.Bases.{AreColumns}
 use Rattle.box_search.specs.Found.{units_of}
-use Rattle.surface_rounds.specs.Flashing.{ArePure, IsBetweenRounds, IsAfterRounds, IsAfterRound}
+use Rattle.surface_rounds.specs.Flashing.{ArePure, IsAfterRounds}
 use Rattle.surface_rounds.specs.Scanned.{IsScanned}
 use Rattle.surface_rounds.proofs.Answered.{is_last, has_low, lawful}
 use Rattle.surface_rounds.proofs.FlashSoFar.{flashing_begins}

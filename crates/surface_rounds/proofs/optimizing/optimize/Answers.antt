@@ -1,4 +1,4 @@
-use Rattle.std.proofs.Common.{◌≡◌, ◌+◌, ◌-◌, refl, ◌∙◌, arith}
+use Rattle.std.proofs.Common.{◌-◌, refl, ◌∙◌, arith}
 use Rattle.case_types.specs.declared.pivots.Pivot.{Pivot}
 use Rattle.surface_rounds.proofs.Pivoting.{none_pivoted, one_pivot_more}
 use Rattle.surface_rounds.proofs.optimizing.optimize.Goals as goal

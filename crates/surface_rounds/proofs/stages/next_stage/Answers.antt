@@ -1,4 +1,4 @@
-use Rattle.std.proofs.Common.{◌≡◌, ℕ, ◌+◌, ◌-◌, ◌≤◌, List, Option, Some, None, Bool, true, false, ℤ, to_z, of_z, ap, ◌∙◌, sym, refl, subst, arith}
+use Rattle.std.proofs.Common.{◌≡◌, ℕ, ◌-◌, ◌≤◌, List, Option, Some, None, true, false, ℤ, to_z, of_z, ap, ◌∙◌, sym, refl, arith}
 use Rattle.std.specs.Prelude.{is_some, IsSome}
 use Rattle.std.specs.Int.{w128}
 use Rattle.std.proofs.lemmas.Int.{ints}
@@ -12,14 +12,13 @@ use Rattle.energy_surface.specs.Outcomes.{delta_of}
 use Rattle.energy_surface.specs.Program.Bases.{AreColumns}
 use Rattle.energy_surface.specs.Program.Pivots.{IsPriced, IsEntering, IsOptimal}
 use Rattle.energy_surface.specs.Program.Planes.{plane_of}
-use Rattle.energy_surface.specs.Rounds.{slack_of}
 use Rattle.energy_surface.specs.Searches.{low_of}
 use Rattle.energy_surface.specs.Surfaces.{under}
 use Rattle.box_search.specs.Found.{IsFound, IsRootOpen, units_of}
 use Rattle.surface_rounds.specs.Flashing.{IsBetweenRounds, IsAfterRounds, IsAfterRound}
 use Rattle.surface_rounds.specs.Noted.{MakesRound}
-use Rattle.surface_rounds.proofs.FlashSoFar.{CutsShort, with_pivots}
-use Rattle.surface_rounds.proofs.OnTheWay.{OnTheWay, are_columns, ups_small, few_columns, mid_room, mid_counted, after_cut, after_end, after_refuted}
+use Rattle.surface_rounds.proofs.FlashSoFar.{with_pivots}
+use Rattle.surface_rounds.proofs.OnTheWay.{OnTheWay, are_columns, ups_small, few_columns, after_cut, after_end, after_refuted}
 use Rattle.surface_rounds.proofs.stages.next_stage.Goals as goal
 use Rattle.surface_rounds.proofs.stages.next_stage.Goals.{Start, After-choose-chosen, After-cut_short, After-round-found}
 
