@@ -24,10 +24,10 @@ pub open_where_one_enters : (s : Surface) (c : Case) (tol : ℕ) (cols : List Co
 open_where_one_enters s c tol cols at to vs enter good begun pivots wanted =
     elim begun [
       | inl alone ↦
-        let best = only_pure c cols at good alone.0 alone.1 in
-        let same = (none_at_optimum c cols at to vs best pivots).1 in
-        let up : pos 0 ≤ℤ price_of c.n cols to (column_at cols enter) = subst (λ p. pos 0 ≤ℤ price_of c.n cols p (column_at cols enter)) same (best enter wanted.inside) in
-        absurd (not_both (price_of c.n cols to (column_at cols enter)) up wanted.cheaper)
+          let best = only_pure c cols at good alone.0 alone.1 in
+          let same = (none_at_optimum c cols at to vs best pivots).1 in
+          let up : pos 0 ≤ℤ price_of c.n cols to (column_at cols enter) = subst (λ p. pos 0 ≤ℤ price_of c.n cols p (column_at cols enter)) same (best enter wanted.inside) in
+          absurd (not_both (price_of c.n cols to (column_at cols enter)) up wanted.cheaper)
       | inr low ↦ low
     ]
   where
@@ -51,8 +51,8 @@ open_on s c tol cols new kept lam at to vs good begun pivots tangent low more =
     known =
         elim begun [
           | inl alone ↦
-            let same = (none_at_optimum c cols at to vs (only_pure c cols at good alone.0 alone.1) pivots).1 in
-            let first : lam ≡ plane_of c.n cols start_places = tangent ∙ ap (plane_of c.n cols) (sym same ∙ alone.1) in
-            rw (← first) low
+              let same = (none_at_optimum c cols at to vs (only_pure c cols at good alone.0 alone.1) pivots).1 in
+              let first : lam ≡ plane_of c.n cols start_places = tangent ∙ ap (plane_of c.n cols) (sym same ∙ alone.1) in
+              rw (← first) low
           | inr there ↦ there
         ]

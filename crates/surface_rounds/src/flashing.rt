@@ -10,7 +10,9 @@ use crate::choices::{feed_as_phase, split_by};
 use crate::pure_columns::keep_pure;
 use crate::scans::scan;
 use crate::stages::next_stage;
-use case_types::{Answer, BoxX, Case, Columns, Letters, Memory, Pivots, Rounds, SLOTS, Units, Work};
+use case_types::{
+    Answer, BoxX, Case, Columns, Letters, Memory, Pivots, Rounds, SLOTS, Units, Work,
+};
 use density_boxes::phase_box;
 use energy_surface::{Found, Surface};
 use exact_lp::start;
@@ -39,7 +41,9 @@ pub fn flashed<S: Surface>(
     let alone = scan(surface, &feed_box(case));
     let mut basis = start(case);
     loop {
-        let stage = next_stage(surface, case, tol, &alone, &mut basis, &mut work, &mut units);
+        let stage = next_stage(
+            surface, case, tol, &alone, &mut basis, &mut work, &mut units,
+        );
         if let Found::Refuted { .. } = stage.found {
             continue;
         }
