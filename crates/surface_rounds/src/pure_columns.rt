@@ -1,8 +1,9 @@
 //! The columns of the pure components, with which every flash begins.
 
-ghost use Rattle.std.specs.Prelude.{◌≡◌, ◌≤◌, ◌<◌, ◌+◌, ◌^◌, if◌then◌else◌, nat_eq, []};
-ghost use Rattle.energy_surface.specs.Columns.{IsColumn};
+ghost use Rattle.std.specs.Prelude.{ℕ, ◌≡◌, ◌≤◌, ◌<◌, ◌+◌, ◌^◌, ◌≤ℤ◌, if◌then◌else◌, nat_eq, []};
+ghost use Rattle.energy_surface.specs.Columns.{IsColumn, point_up};
 ghost use Rattle.energy_surface.specs.Lawful.{pure_composition, IsPureColumn};
+ghost use Rattle.energy_surface.specs.Scans.{scan_packing};
 ghost use Rattle.surface_rounds.specs.Flashing.{ArePure};
 
 use crate::scans::scan;
@@ -23,12 +24,13 @@ pub fn keep_pure<S: Surface>(surface: &S, columns: &mut Columns)
     }
 }
 
-/// The column of the component `k` alone, at the packing fraction of the scan.
+/// The column of the component `k` alone, at the packing fraction of the scan: that of least upper energy.
 fn pure_column<S: Surface>(surface: &S, k: u8) -> Column
     requires live { k < (S.bounds surface.now).count }
     requires four { k < 4 }
     ensures column { IsColumn (S.bounds surface.now) result }
     ensures pure { IsPureColumn (S.bounds surface.now) k result }
+    ensures least { (place : ℕ) → place < 64 → result.up ≤ℤ point_up (S.bounds surface.now) (record { composition = pure_composition k; packing = scan_packing place }) }
 {
     let comp = pure(k);
     let scanned = scan(surface, &box_at(comp));
