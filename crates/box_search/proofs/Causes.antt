@@ -1,12 +1,12 @@
 -- Why a cell has its letter, and why a search ends at it.
-use Rattle.std.proofs.Common.{◌≡◌, ℕ, ◌+◌, ◌/◌, ◌^◌, ◌≤◌, ◌<◌, ◌-◌, ◌⊎◌, inl, inr, refl, ◌||◌, nat_lt, ◌==◌, Bool, true, false, if◌then◌else◌, Some, None, neg_ℤ, ◌<ℤ◌, IsTrue, IsFalse, arith}
+use Rattle.std.proofs.Common.{◌≡◌, ℕ, ◌+◌, ◌/◌, ◌^◌, ◌≤◌, ◌<◌, ◌-◌, ◌⊎◌, inl, inr, refl, ◌||◌, nat_lt, ◌==◌, Bool, true, false, if◌then◌else◌, Some, None, IsTrue, arith}
 use Rattle.std.proofs.lemmas.Bool.{cases_lt}
 use Rattle.std.proofs.lemmas.Int.{ints}
 use Rattle.case_types.specs.declared.rounds.Column.{Column}
-use Rattle.case_types.specs.Grid.Cells.{Region, misses, edge_to_halve, is_unit, GridPoint, middle_sum, middle_point, midpoint}
+use Rattle.case_types.specs.Grid.Cells.{Region, edge_to_halve, is_unit, GridPoint, middle_sum, middle_point, midpoint}
 use Rattle.case_types.specs.Grid.Columns.{point_of}
 use Rattle.case_types.specs.Grid.Visits.{HasUnitEdge}
-use Rattle.energy_surface.specs.Surfaces.{Under, plain_low}
+use Rattle.energy_surface.specs.Surfaces.{Under}
 use Rattle.energy_surface.specs.Columns.{IsColumn, Refutes}
 use Rattle.energy_surface.specs.Searches.{IsUncleared, MiddleRefutes, IsCutOff}
 
@@ -24,9 +24,6 @@ pub middle_refutes : (u : Under) (r : Region) (g : GridPoint) → midpoint u.sur
 middle_refutes u r g e h = rw e h
 
 -- ---- cells
-pub uncleared : (u : Under) (r : Region) → IsFalse (misses u.surface.count r) → plain_low u.surface u.plane r <ℤ neg_ℤ u.delta → IsUncleared u r
-uncleared u r meets h = record { meets = meets; below = h }
-
 -- the column in the middle of the cell in hand is kept
 pub cut_off : (u : Under) (kept : Column) (hand : Region) → IsUncleared u hand → midpoint u.surface.count hand ≡ Some (point_of kept) →
     IsColumn u.surface kept → Refutes u (point_of kept) → IsCutOff u kept hand

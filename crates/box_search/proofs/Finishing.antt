@@ -1,7 +1,8 @@
 -- The visits of one tree for each of some cells, in turn.
-use Rattle.std.proofs.Common.{◌≡◌, ℕ, List, [], ◌∷◌, ◌++◌, map, refl, sym, ap, ◌∙◌, append_assoc}
+use Rattle.std.proofs.Common.{◌≡◌, ℕ, List, [], ◌∷◌, ◌++◌, map, ℤ, refl, sym, ap, ◌∙◌, append_assoc}
 use Rattle.case_types.specs.Grid.Cells.{Region, lower_half, upper_half, Mark, Tree, Leaf, Node, Ends, Halves, Visit, visits}
-use Rattle.case_types.specs.Grid.Visits.{left_visit}
+use Rattle.energy_surface.specs.Searches.{left_visit}
+use Rattle.energy_surface.specs.Surfaces.{Surface}
 
 unfoldable pub Finishes : List Region → List Visit → Type 0
 Finishes [] rest = rest ≡ []
@@ -24,7 +25,7 @@ finish_halved edge r below rest f = (
 )
 
 -- leaves finish any cells
-pub finish_all : (n : ℕ) (left : List Region) → Finishes left (map (left_visit n) left)
+pub finish_all : (s : Surface) (lam : List ℤ) (left : List Region) → Finishes left (map (left_visit s lam) left)
 unfolding Finishes
-finish_all n [] = refl
-finish_all n (r ∷ below) = finish_leaf _ r below (map (left_visit n) below) (finish_all n below)
+finish_all s lam [] = refl
+finish_all s lam (r ∷ below) = finish_leaf _ r below (map (left_visit s lam) below) (finish_all s lam below)

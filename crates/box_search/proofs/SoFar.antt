@@ -1,30 +1,32 @@
 -- A search so far: what is written, with any visits that finish the cells on the stack, is a tree.
-use Rattle.std.proofs.Common.{◌≡◌, ℕ, zero, suc, ◌+◌, ◌^◌, ◌⊎◌, List, [], ◌∷◌, ◌++◌, map, ℤ, pos, neg_ℤ, unsigned_abs, ◌≤◌, ◌≤ℤ◌, ◌<ℤ◌, IsFalse, IsTrue, ◌==◌, slice_set, if◌then◌else◌, Bool, true, false, cond, inl, inr, Option, Some, None, refl, sym, ap, ◌∙◌, append_assoc, arith}
+use Rattle.std.proofs.Common.{◌≡◌, ℕ, zero, suc, ◌+◌, ◌^◌, ◌⊎◌, List, [], ◌∷◌, ◌++◌, map, ℤ, pos, neg_ℤ, unsigned_abs, ◌≤◌, ◌≤ℤ◌, ◌<ℤ◌, IsFalse, IsTrue, ◌==◌, slice_set, if◌then◌else◌, Bool, true, false, inl, inr, Option, Some, None, refl, sym, subst, ap, ◌∙◌, append_assoc, arith}
 use Rattle.std.proofs.lemmas.Int.{ints}
 use Rattle.std.proofs.lemmas.List.{append-nil, map-append}
 use Rattle.case_types.specs.declared.cells.Cell.{Cell}
-use Rattle.case_types.specs.Grid.Cells.{Region, region_of, root_region, lower_half, upper_half, misses, packing_edge, cut, Misses, Plain, Sloped, Tree, Leaf, Node, Step, Ends, Halves, Visit, visits, letter_of, letters_of, HasVisit}
-use Rattle.case_types.specs.Grid.Visits.{EachVisit, left_visit, edges_in}
+use Rattle.case_types.specs.Grid.Cells.{Region, region_of, root_region, lower_half, upper_half, misses, packing_edge, cut, Mark, Misses, Plain, Sloped, Tree, Leaf, Node, Step, Ends, Halves, Visit, visits, letter_of, letters_of, HasVisit, HasLow}
+use Rattle.case_types.specs.Grid.Visits.{EachVisit, edges_in}
 use Rattle.case_types.proofs.Exports.{total, has-left, has-right, each-append, edges-append}
 use Rattle.energy_surface.proofs.Exports.{each_over_less}
 use Rattle.energy_surface.specs.declared.found.Found.{Found}
 use Rattle.energy_surface.specs.declared.found.Found.TheVariants.{Spent, Grain}
 use Rattle.box_search.specs.Found.{units_of}
+use Rattle.box_search.specs.declared.leaves.Leaf.{Leaf as LeafLow}
+use Rattle.box_search.specs.Leaves.{Clears}
 use Rattle.box_search.specs.Written.{IsLeastFrom, Closes, Searches}
-use Rattle.energy_surface.specs.Surfaces.{Surface, Under, plain_low}
-use Rattle.energy_surface.specs.Searches.{HaveCauses, HasStepCause, IsStepOver, IsStepAt, IsLeastLow, HasLeastLow, HasEndCause, WantsUnit, IsGrainOf, closing, low_of}
+use Rattle.energy_surface.specs.Surfaces.{Surface, Under, low_by}
+use Rattle.energy_surface.specs.Searches.{HaveCauses, HasStepCause, IsStepOver, IsStepAt, IsLeastLow, HasLeastLow, HasEndCause, WantsUnit, IsGrainOf, left_mark, left_visit, closing, low_of}
 use Rattle.log_laws.proofs.Exports.{abs_within}
 use Rattle.box_search.proofs.Finishing.{Finishes, finish_leaf, finish_halved, finish_all}
 
 -- ---- leaves
-abbrev pub plain_visit : Region → Visit
-plain_visit r = record { region = r; step = Ends Plain }
+abbrev pub leaf_visit : Mark → Region → Visit
+leaf_visit mark r = record { region = r; step = Ends mark }
 
-abbrev pub missing_visit : Region → Visit
-missing_visit r = record { region = r; step = Ends Misses }
-
-pub plain_at : (s : Surface) (lam : List ℤ) (low : ℤ) (r : Region) → low ≡ plain_low s lam r → IsStepAt s lam low r (Ends Plain)
-plain_at s lam low r e = ap Some (sym e)
+-- a low of a leaf is over each lower number
+pub leaf_over : (s : Surface) (lam : List ℤ) (mark : Mark) (r : Region) (own less : ℤ) → low_by s lam r mark ≡ Some own → less ≤ℤ own → IsStepOver s lam less r (Ends mark)
+leaf_over s lam Misses r own less e h = absurd (let z : None ≡ Some own = e in cc)
+leaf_over s lam Plain r own less e h = subst (HasLow less) (sym e) h
+leaf_over s lam Sloped r own less e h = subst (HasLow less) (sym e) h
 
 -- ---- the lesser of two numbers
 -- no low of a cell is above this
@@ -110,34 +112,43 @@ pub written_more : (old now next : List ℕ) (before : List Visit) (v : Visit) �
 written_more old now next before v e f = rw (map-append, ← append_assoc old (letters_of before) (letter_of v.step ∷ []), ← e) f
 
 -- the least low with one leaf more
-reached_more : (s : Surface) (lam : List ℤ) (low next : ℤ) (before : List Visit) (r : Region) → IsLesser low (plain_low s lam r) next → plain_low s lam r ≤ℤ highest →
+reached_more : (s : Surface) (lam : List ℤ) (low own next : ℤ) (before : List Visit) (mark : Mark) (r : Region) → low_by s lam r mark ≡ Some own → IsLesser low own next → own ≤ℤ highest →
     IsReached s lam low before →
-    HasVisit (λ v. IsStepAt s lam next v.region v.step) (before ++ plain_visit r ∷ [])
-reached_more s lam low next before r lesser small old =
-    elim (lesser_is low (plain_low s lam r) next lesser) [
+    HasVisit (λ v. IsStepAt s lam next v.region v.step) (before ++ leaf_visit mark r ∷ [])
+reached_more s lam low own next before mark r at lesser small old =
+    elim (lesser_is low own next lesser) [
       | inr here ↦ now here
       | inl same ↦ elim old [
-        | inl there ↦ has-left (λ v. IsStepAt s lam next v.region v.step) before (plain_visit r ∷ []) (rw same there)
+        | inl there ↦ has-left (λ v. IsStepAt s lam next v.region v.step) before (leaf_visit mark r ∷ []) (rw same there)
         | inr none ↦ now (omega (arith, ints, same, none.0, small, lesser.1))
       ]
     ]
   where
-    now : next ≡ plain_low s lam r → HasVisit (λ v. IsStepAt s lam next v.region v.step) (before ++ plain_visit r ∷ [])
-    now e = has-right (λ v. IsStepAt s lam next v.region v.step) before (plain_visit r ∷ []) (inl (plain_at s lam next r e))
+    now : next ≡ own → HasVisit (λ v. IsStepAt s lam next v.region v.step) (before ++ leaf_visit mark r ∷ [])
+    now e = has-right (λ v. IsStepAt s lam next v.region v.step) before (leaf_visit mark r ∷ []) (inl (rw e at))
+
+-- the letter of a leaf is none of an edge
+leaf_edges : (mark : Mark) (rest : List ℕ) → edges_in (letter_of (Ends mark) ∷ rest) ≡ edges_in rest
+leaf_edges Misses rest = refl
+leaf_edges Plain rest = refl
+leaf_edges Sloped rest = refl
 
 -- a cell is cleared
-pub stands : (u : Under) (low next : ℤ) (old now new : List ℕ) (units : ℕ) (r : Region) (stack below : List Region) →
-    stack ≡ r ∷ below → new ≡ now ++ 112 ∷ [] → HasStepCause u r (Ends Plain) → IsLesser low (plain_low u.surface u.plane r) next → plain_low u.surface u.plane r ≤ℤ highest →
+pub clears : (u : Under) (low next : ℤ) (old now new : List ℕ) (units : ℕ) (r : Region) (stack below : List Region) (leaf : LeafLow) →
+    stack ≡ r ∷ below → new ≡ now ++ leaf.letter ∷ [] → Clears u r leaf → IsLesser low leaf.low next → leaf.low ≤ℤ highest →
     SoFar u old now units low stack → SoFar u old new units next below
-stands u low next old now new units r stack below e f clear lesser small h = record {
-  before = h.before ++ plain_visit r ∷ [];
-  written = written_more old now new h.before (plain_visit r) h.written f;
-  caused = each-append (λ v. HasStepCause u v.region v.step) h.before (plain_visit r ∷ []) h.caused (clear, tt);
-  grows = λ rest k. rw append_assoc (h.grows (plain_visit r ∷ rest) (rw e (finish_leaf Plain r below rest k)));
-  units_are = let z = edges-append (letters_of h.before) (112 ∷ []) in rw map-append (omega (arith, z, h.units_are));
-  over = each-append (λ v. IsStepOver u.surface u.plane next v.region v.step) h.before (plain_visit r ∷ []) (each_over_less u.surface u.plane low next lesser.0 h.before h.over) (lesser.1, tt);
-  reached = inl (reached_more u.surface u.plane low next h.before r lesser small h.reached);
-}
+clears u low next old now new units r stack below leaf e f clear lesser small h =
+    let here = leaf_visit clear.mark r in
+    record {
+      before = h.before ++ here ∷ [];
+      written = written_more old now new h.before here h.written (rw clear.by.letter at f);
+      caused = each-append (λ v. HasStepCause u v.region v.step) h.before (here ∷ []) h.caused (clear.cause, tt);
+      grows = λ rest k. rw append_assoc (h.grows (here ∷ rest) (rw e (finish_leaf clear.mark r below rest k)));
+      units_are = let z = edges-append (letters_of h.before) (letter_of (Ends clear.mark) ∷ []) in rw map-append (omega (arith, z, leaf_edges clear.mark [], h.units_are));
+      over = each-append (λ v. IsStepOver u.surface u.plane next v.region v.step) h.before (here ∷ []) (each_over_less u.surface u.plane low next lesser.0 h.before h.over)
+          (leaf_over u.surface u.plane clear.mark r leaf.low next clear.by.low lesser.1, tt);
+      reached = inl (reached_more u.surface u.plane low leaf.low next h.before clear.mark r clear.by.low lesser small h.reached);
+    }
 
 reached_halved : (s : Surface) (lam : List ℤ) (low : ℤ) (before : List Visit) (u : Visit) → HasNoLow s.count u.region u.step →
     IsReached s lam low before →
@@ -150,13 +161,13 @@ pub passes : (u : Under) (low : ℤ) (old now new : List ℕ) (units : ℕ) (r :
     stack ≡ r ∷ below → new ≡ now ++ 109 ∷ [] → IsTrue (misses u.surface.count r) →
     SoFar u old now units low stack → SoFar u old new units low below
 passes u low old now new units r stack below e f miss h = record {
-  before = h.before ++ missing_visit r ∷ [];
-  written = written_more old now new h.before (missing_visit r) h.written f;
-  caused = each-append (λ v. HasStepCause u v.region v.step) h.before (missing_visit r ∷ []) h.caused (miss, tt);
-  grows = λ rest k. rw append_assoc (h.grows (missing_visit r ∷ rest) (rw e (finish_leaf Misses r below rest k)));
+  before = h.before ++ leaf_visit Misses r ∷ [];
+  written = written_more old now new h.before (leaf_visit Misses r) h.written f;
+  caused = each-append (λ v. HasStepCause u v.region v.step) h.before (leaf_visit Misses r ∷ []) h.caused (miss, tt);
+  grows = λ rest k. rw append_assoc (h.grows (leaf_visit Misses r ∷ rest) (rw e (finish_leaf Misses r below rest k)));
   units_are = let z = edges-append (letters_of h.before) (109 ∷ []) in rw map-append (omega (arith, z, h.units_are));
-  over = each-append (λ v. IsStepOver u.surface u.plane low v.region v.step) h.before (missing_visit r ∷ []) h.over (miss, tt);
-  reached = reached_halved u.surface u.plane low h.before (missing_visit r) miss h.reached;
+  over = each-append (λ v. IsStepOver u.surface u.plane low v.region v.step) h.before (leaf_visit Misses r ∷ []) h.over (miss, tt);
+  reached = reached_halved u.surface u.plane low h.before (leaf_visit Misses r) miss h.reached;
 }
 
 -- the letter of a halving is one of an edge
@@ -184,35 +195,23 @@ halves u low old now new units more edge r stack below next inside e e2 f cause 
     }
 
 -- ---- the end
--- a cell that is left and holds compositions has the letter `p`
-left_plain : (n : ℕ) (r : Region) → IsFalse (misses n r) → left_visit n r ≡ plain_visit r
-left_plain n r h = rw h refl
-
--- the low of a search that leaves cells
-pub low_left : (s : Surface) (lam : List ℤ) (low mid least : ℤ) (hand : Region) (rest : List Region) → IsFalse (misses s.count hand) → IsLesser low (plain_low s lam hand) mid →
-    plain_low s lam hand <ℤ highest → IsLeastFrom s lam mid least (map (left_visit s.count) rest) →
+-- the low of a search that leaves cells, the least of which is below every low
+pub low_left : (s : Surface) (lam : List ℤ) (low least : ℤ) (left : List Region) → IsLeastFrom s lam low least (map (left_visit s lam) left) → least <ℤ highest →
     (before : List Visit) → EachVisit (λ v. IsStepOver s lam low v.region v.step) before → IsReached s lam low before →
-    IsLeastLow s lam least (before ++ map (left_visit s.count) (hand ∷ rest))
-low_left s lam low mid least hand rest meets lesser small h before over reached = rw left_is record {
-  over = each-append (λ v. IsStepOver s lam least v.region v.step) before (plain_visit hand ∷ map (left_visit s.count) rest)
-      (each_over_less s lam low least (omega (arith, ints, lesser.0, h.lower)) before over) (omega (arith, ints, lesser.1, h.lower), h.over);
+    IsLeastLow s lam least (before ++ map (left_visit s lam) left)
+low_left s lam low least left h small before over reached = record {
+  over = each-append (λ v. IsStepOver s lam least v.region v.step) before (map (left_visit s lam) left) (each_over_less s lam low least h.lower before over) h.over;
   reached = elim h.reached [
-    | inr there ↦ has-right P before (plain_visit hand ∷ map (left_visit s.count) rest) (inr there)
-    | inl same ↦ elim (lesser_is low (plain_low s lam hand) mid lesser) [
-      | inr here ↦ has-right P before (plain_visit hand ∷ map (left_visit s.count) rest) (inl (plain_at s lam least hand (same ∙ here)))
-      | inl old ↦ elim reached [
-        | inl there ↦ has-left P before (plain_visit hand ∷ map (left_visit s.count) rest) (rw (same, old) there)
-        | inr none ↦ absurd (omega (arith, ints, old, none.0, small, lesser.1))
-      ]
+    | inr there ↦ has-right P before (map (left_visit s lam) left) there
+    | inl same ↦ elim reached [
+      | inl there ↦ has-left P before (map (left_visit s lam) left) (rw same there)
+      | inr none ↦ absurd (omega (arith, ints, same, none.0, small))
     ]
   ];
 }
   where
     P : Visit → Type 0
     P = λ v. IsStepAt s lam least v.region v.step
-
-    left_is : map (left_visit s.count) (hand ∷ rest) ≡ plain_visit hand ∷ map (left_visit s.count) rest
-    left_is = ap (λ v. v ∷ map (left_visit s.count) rest) (left_plain s.count hand meets)
 
 -- the low of a search that clears every cell
 pub low_clear : (s : Surface) (lam : List ℤ) (low : ℤ) (t : Tree) (r : Region) (before : List Visit) → IsFalse (misses s.count r) → visits t r ≡ before ++ [] →
@@ -221,29 +220,25 @@ low_clear s lam low t r before m e over (inl there) = rw (append-nil before) rec
 low_clear s lam low t r before m e over (inr none) =
     absurd (some_leaf s.count t r [] m (rw (append-nil (visits t r), e, append-nil before) none.1))
 
-left-edges : (n : ℕ) (left : List Region) → edges_in (letters_of (map (left_visit n) left)) ≡ 0
-left-edges n [] = refl
-left-edges n (r ∷ below) = by_mark (misses n r) (letters_of (map (left_visit n) below)) (left-edges n below)
-  where
-    by_mark : (b : Bool) (rest : List ℕ) → edges_in rest ≡ 0 → edges_in (letter_of (Ends (cond b Misses Plain)) ∷ rest) ≡ 0
-    by_mark true rest h = h
-    by_mark false rest h = h
+left-edges : (s : Surface) (lam : List ℤ) (left : List Region) → edges_in (letters_of (map (left_visit s lam) left)) ≡ 0
+left-edges s lam [] = refl
+left-edges s lam (r ∷ below) = leaf_edges (left_mark s lam r) (letters_of (map (left_visit s lam) below)) ∙ left-edges s lam below
 
-closing-edges : (n : ℕ) (low : Option ℤ) (left : List Region) → edges_in (letters_of (closing n low left)) ≡ 0
-closing-edges n None left = refl
-closing-edges n (Some low) left = left-edges n left
+closing-edges : (s : Surface) (lam : List ℤ) (low : Option ℤ) (left : List Region) → edges_in (letters_of (closing s lam low left)) ≡ 0
+closing-edges s lam None left = refl
+closing-edges s lam (Some low) left = left-edges s lam left
 
 -- the search ends with some cells left, which get leaf letters or not
 pub ended : (u : Under) (low : ℤ) (old now new : List ℕ) (units more : ℕ) (stack left : List Region) (found : Found) →
-    stack ≡ left → HasEndCause u found left → new ≡ now ++ letters_of (closing u.surface.count (low_of found) left) → more ≡ units + units_of found →
-    ((t : Tree) (before : List Visit) → visits t (root_region u.surface.count) ≡ before ++ map (left_visit u.surface.count) left →
+    stack ≡ left → HasEndCause u found left → new ≡ now ++ letters_of (closing u.surface u.plane (low_of found) left) → more ≡ units + units_of found →
+    ((t : Tree) (before : List Visit) → visits t (root_region u.surface.count) ≡ before ++ map (left_visit u.surface u.plane) left →
     EachVisit (λ v. IsStepOver u.surface u.plane low v.region v.step) before → IsReached u.surface u.plane low before →
-    HasLeastLow u.surface u.plane (low_of found) (before ++ map (left_visit u.surface.count) left)) →
+    HasLeastLow u.surface u.plane (low_of found) (before ++ map (left_visit u.surface u.plane) left)) →
     SoFar u old now units low stack → Searches u old new more found
 ended u low old now new units more stack left found e cause f g low_of_walk h =
     let k : SoFar u old now units low left = rw e at h in
-    let t = k.grows (map (left_visit u.surface.count) left) (finish_all u.surface.count left) in
-    let closings = closing u.surface.count (low_of found) left in
+    let t = k.grows (map (left_visit u.surface u.plane) left) (finish_all u.surface u.plane left) in
+    let closings = closing u.surface u.plane (low_of found) left in
     record {
       own = letters_of (k.before ++ closings);
       written = rw (map-append, ← append_assoc old (letters_of k.before) (letters_of closings), ← k.written) f;
@@ -259,27 +254,21 @@ ended u low old now new units more stack left found e cause f g low_of_walk h =
       };
       counted =
           let z = edges-append (letters_of k.before) (letters_of closings) in
-          let none = closing-edges u.surface.count (low_of found) left in
+          let none = closing-edges u.surface u.plane (low_of found) left in
           rw map-append (omega (arith, z, none, k.units_are, g));
     }
 
-letters_left : (n : ℕ) (now new : List ℕ) (hand : Region) (rest : List Region) → IsFalse (misses n hand) → new ≡ now ++ 112 ∷ letters_of (map (left_visit n) rest) →
-    new ≡ now ++ letters_of (map (left_visit n) (hand ∷ rest))
-letters_left n now new hand rest meets e = rw meets e
-
 -- the search stops at the cell in hand, for want of a unit or since it is of one unit
-pub stops_spent : (u : Under) (low mid least : ℤ) (old now new : List ℕ) (units : ℕ) (hand : Region) (stack rest : List Region) →
-    stack ≡ hand ∷ rest → WantsUnit u hand → Closes u.surface u.plane mid rest now new least → IsLesser low (plain_low u.surface u.plane hand) mid → plain_low u.surface u.plane hand <ℤ highest →
+pub stops_spent : (u : Under) (low least : ℤ) (old now new : List ℕ) (units : ℕ) (hand : Region) (stack rest : List Region) →
+    stack ≡ hand ∷ rest → WantsUnit u hand → Closes u.surface u.plane low (hand ∷ rest) now new least → least <ℤ highest →
     SoFar u old now units low stack → Searches u old new units (Spent least)
-stops_spent u low mid least old now new units hand stack rest e cause closes lesser small h =
-    ended u low old now new units units stack (hand ∷ rest) (Spent least) e cause (letters_left u.surface.count now new hand rest cause.uncleared.meets closes.written) (omega arith)
-    (λ t before k over reached. low_left u.surface u.plane low mid least hand rest cause.uncleared.meets lesser small closes.lows before over reached) h
+stops_spent u low least old now new units hand stack rest e cause closes small h =
+    ended u low old now new units units stack (hand ∷ rest) (Spent least) e cause closes.written (omega arith)
+    (λ t before k over reached. low_left u.surface u.plane low least (hand ∷ rest) closes.lows small before over reached) h
 
-pub stops_grain : (u : Under) (low mid least : ℤ) (old now new : List ℕ) (units : ℕ) (cell : Cell) (stack rest : List Region) →
-    stack ≡ region_of cell ∷ rest → IsGrainOf u (region_of cell) (region_of cell) → Closes u.surface u.plane mid rest now new least →
-    IsLesser low (plain_low u.surface u.plane (region_of cell)) mid → plain_low u.surface u.plane (region_of cell) <ℤ highest →
+pub stops_grain : (u : Under) (low least : ℤ) (old now new : List ℕ) (units : ℕ) (cell : Cell) (stack rest : List Region) →
+    stack ≡ region_of cell ∷ rest → IsGrainOf u (region_of cell) (region_of cell) → Closes u.surface u.plane low (region_of cell ∷ rest) now new least → least <ℤ highest →
     SoFar u old now units low stack → Searches u old new units (Grain least cell)
-stops_grain u low mid least old now new units cell stack rest e cause closes lesser small h =
-    ended u low old now new units units stack (region_of cell ∷ rest) (Grain least cell) e cause
-    (letters_left u.surface.count now new (region_of cell) rest cause.stuck.uncleared.meets closes.written) (omega arith)
-    (λ t before k over reached. low_left u.surface u.plane low mid least (region_of cell) rest cause.stuck.uncleared.meets lesser small closes.lows before over reached) h
+stops_grain u low least old now new units cell stack rest e cause closes small h =
+    ended u low old now new units units stack (region_of cell ∷ rest) (Grain least cell) e cause closes.written (omega arith)
+    (λ t before k over reached. low_left u.surface u.plane low least (region_of cell ∷ rest) closes.lows small before over reached) h

@@ -1,8 +1,8 @@
 -- What a search writes.
-use Rattle.std.specs.Prelude.{ℕ, ◌≡◌, ◌≤◌, ◌+◌, ◌*◌, ◌⊎◌, List, ◌∷◌, ◌++◌, map, length, ℤ, ◌≤ℤ◌}
+use Rattle.std.specs.Prelude.{ℕ, ◌≡◌, ◌≤◌, ◌+◌, ◌*◌, ◌⊎◌, List, ◌++◌, map, length, ℤ, ◌≤ℤ◌}
 use Rattle.case_types.specs.Grid.Cells.{Region, Visit, HasVisit, letters_of}
-use Rattle.case_types.specs.Grid.Visits.{EachVisit, left_visit, edges_in}
-use Rattle.energy_surface.specs.Searches.{IsStepOver, IsStepAt, IsSearched}
+use Rattle.case_types.specs.Grid.Visits.{EachVisit, edges_in}
+use Rattle.energy_surface.specs.Searches.{IsStepOver, IsStepAt, IsSearched, left_visit}
 use Rattle.energy_surface.specs.Surfaces.{Surface, Under}
 use Rattle.energy_surface.specs.declared.found.Found.{Found}
 use Rattle.box_search.specs.Found.{units_of}
@@ -28,10 +28,10 @@ pub record IsLeastFrom (s : Surface) (lam : List ℤ) (low least : ℤ) (vs : Li
   pub over : EachVisit (λ v. IsStepOver s lam least v.region v.step) vs
   pub reached : (least ≡ low) ⊎ HasVisit (λ v. IsStepAt s lam least v.region v.step) vs
 
--- the letter `p` of the cell in hand follows, and the leaf letters of the cells that are left, whose lows lower a number
+-- the leaf letters of the cells that are left follow, whose lows lower a number
 pub record Closes (s : Surface) (lam : List ℤ) (low : ℤ) (left : List Region) (old new : List ℕ) (least : ℤ) : Type 0 where
-  pub written : new ≡ old ++ 112 ∷ letters_of (map (left_visit s.count) left)
-  pub lows : IsLeastFrom s lam low least (map (left_visit s.count) left)
+  pub written : new ≡ old ++ letters_of (map (left_visit s lam) left)
+  pub lows : IsLeastFrom s lam low least (map (left_visit s lam) left)
 
 -- the letters of a search follow, which cost these units with its refutation
 pub record Searches (u : Under) (old new : List ℕ) (units : ℕ) (found : Found) : Type 0 where

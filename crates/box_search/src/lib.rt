@@ -8,12 +8,16 @@
 mod bowls;
 mod domain;
 mod halves;
+mod leaves;
 mod looks;
 mod middles;
 mod parts;
 mod planes;
 mod points;
 mod searching;
+#[cfg(test)]
+mod sloped_trials;
+mod slopes;
 mod stack;
 #[cfg(test)]
 mod tests;

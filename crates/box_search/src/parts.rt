@@ -2,7 +2,7 @@
 
 ghost use Rattle.std.specs.Prelude.{◌≡◌, ◌<◌, ◌^◌, length, unsigned_abs};
 
-use case_types::{Cell, MixLow, MixUp, PackingLogs, SLOTS};
+use case_types::{Cell, MixLow, MixSlope, MixUp, PackingLogs, PackingSlope, SLOTS};
 
 /// What lower bounds over a cell have of its compositions.
 #[derive(Clone, Copy)]
@@ -24,19 +24,40 @@ pub struct PointParts {
     pub ghost entries: { length comp ≡ 4 },
 }
 
+/// The logarithms at the packing fraction in the middle of a cell, and the parts of its slope low that were made.
+#[derive(Clone, Copy)]
+pub struct Slopes {
+    pub middle: PackingLogs,
+    /// What the packing fractions have of it.
+    pub packing: Option<PackingSlope>,
+    /// What the compositions have of it.
+    pub mix: Option<MixSlope>,
+}
+
+/// The parts of a cell that no low clears.
+#[derive(Clone, Copy)]
+pub struct Made {
+    pub over: BoxParts,
+    pub slopes: Slopes,
+}
+
 /// What both halves of a cell have from it, but for the ends of the packing fraction.
 #[derive(Clone, Copy)]
 pub enum Shared {
-    /// After a halving of the packing fraction: the parts of the compositions, and of the one in the middle if it was made.
+    /// After a halving of the packing fraction: the parts of the compositions, of the one in the middle and of slope lows if
+    /// they were made.
     Compositions {
         over: BoxParts,
         middle: Option<MixUp>,
+        slope: Option<MixSlope>,
     },
-    /// After a halving of a fraction: the logarithms at the packing fraction in the middle.
+    /// After a halving of a fraction: the logarithms at the packing fraction in the middle, and the part of slope lows if it
+    /// was made.
     Packings {
         middle: PackingLogs,
+        slope: Option<PackingSlope>,
     },
-    /// Nothing was made.
+    /// Of the whole domain: nothing.
     Nothing,
 }
 

@@ -4,7 +4,7 @@ ghost use Rattle.std.specs.Prelude.{◌≡◌, ◌≤◌, ◌<◌, ◌^◌, IsSo
 ghost use Rattle.log_laws.specs.Whole.{ceil_over};
 ghost use Rattle.case_types.specs.Grid.Columns.{IsGridPoint, point_of};
 ghost use Rattle.energy_surface.specs.Columns.{IsColumn, point_up};
-ghost use Rattle.box_search.specs.Parts.{IsPoint, grid_point};
+ghost use Rattle.box_search.specs.Parts.{meanings, IsPoint, grid_point};
 
 use crate::parts::PointParts;
 use case_types::{Column, SLOTS};
@@ -30,7 +30,7 @@ pub fn column_at<S: Surface>(surface: &S, comp: [u32; SLOTS], packing: u64) -> O
 
 /// The column at a grid point with its parts, if its upper energy is of size below 2^49.
 pub fn column_of<S: Surface>(surface: &S, point: &PointParts) -> Option<Column>
-    requires { IsPoint (S.is_mix_up surface.now) (S.are_logs surface.now) (S.bounds surface.now).count point.now }
+    requires { IsPoint (meanings (S.bounds surface.now).count (S.is_mix_low surface.now) (S.is_mix_up surface.now) (S.are_logs surface.now) (S.is_mix_slope surface.now) (S.is_packing_slope surface.now)) point.now }
     ensures column { IfSome result (IsColumn (S.bounds surface.now)) }
     ensures at { IfSome result (λ c. point_of c ≡ grid_point point.now) }
     ensures at_half { point.now.logs.packing ≡ 2 ^ 39 → IsSome result }

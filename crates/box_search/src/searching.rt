@@ -1,15 +1,16 @@
 //! The search.
 
-ghost use Rattle.std.specs.Prelude.{◌≡◌, ◌≤◌, ◌+◌, ◌-◌, ◌*◌, ◌^◌, ℤ, length, IfSome, pos, ◌≤ℤ◌, unsigned_abs};
-ghost use Rattle.case_types.specs.Grid.Cells.{letter_of, Halves};
+ghost use Rattle.std.specs.Prelude.{◌≡◌, ◌≤◌, ◌+◌, ◌-◌, ◌*◌, ◌^◌, ◌∷◌, ℤ, length, IfSome, pos, ◌≤ℤ◌, unsigned_abs};
+ghost use Rattle.case_types.specs.Grid.Cells.{Region, letter_of, Halves};
 ghost use Rattle.energy_surface.specs.Searches.{low_of};
 ghost use Rattle.energy_surface.specs.Surfaces.{under};
 ghost use Rattle.box_search.specs.Found.{IsFound, IsRootOpen, units_of};
-ghost use Rattle.box_search.specs.Parts.{HaveParts};
+ghost use Rattle.box_search.specs.Leaves.{IsLeft};
+ghost use Rattle.box_search.specs.Parts.{meanings, HaveParts};
 ghost use Rattle.box_search.specs.Written.{Writes, WritesSome, Closes, Searches};
 
 use crate::halves::{halves, whole};
-use crate::looks::look;
+use crate::leaves::{Leaf, left, see};
 use crate::middles::{middle_of, refuting};
 use crate::stack::Stack;
 use case_types::{Letters, Plane, Units};
@@ -45,39 +46,38 @@ pub fn search<S: Surface>(
     let mut stack = Stack::new(whole(surface));
     let mut low = HIGHEST;
     while let Some(half) = stack.pop() {
-        let cell = half.cell;
-        if misses(n, &cell) {
+        if misses(n, &half.cell) {
             letters.push(b'm');
             continue;
         }
-        let looked = look(surface, plane, &half);
-        let here = looked.low;
-        if here >= -delta {
-            letters.push(b'p');
-            low = smaller(low, here);
+        let seen = see(surface, plane, delta, &half);
+        let Some(made) = &seen.made else {
+            letters.push(seen.leaf.letter);
+            low = smaller(low, seen.leaf.low);
             continue;
-        }
-        let middle = middle_of(surface, &half);
+        };
+        let middle = middle_of(surface, &half, &made.slopes.middle);
         if let Some(column) = refuting(surface, plane, delta, &middle) {
             if units.is_spent() {
-                let low = close(surface, plane, smaller(low, here), letters, stack);
+                let low = close(surface, plane, low, &seen.leaf, letters, stack);
                 return Found::Spent { low };
             }
             units.spend();
             return Found::Refuted { column };
         }
-        let edge = edge_to_halve(n, &cell);
-        if is_unit(&cell, edge) {
-            let low = close(surface, plane, smaller(low, here), letters, stack);
+        let edge = edge_to_halve(n, &half.cell);
+        if is_unit(&half.cell, edge) {
+            let low = close(surface, plane, low, &seen.leaf, letters, stack);
+            let cell = half.cell;
             return Found::Grain { low, cell };
         }
         if units.is_spent() {
-            let low = close(surface, plane, smaller(low, here), letters, stack);
+            let low = close(surface, plane, low, &seen.leaf, letters, stack);
             return Found::Spent { low };
         }
         units.spend();
         letters.push(edge_letter(edge));
-        let (lower, upper) = halves(surface, &half, edge, &looked.over, &middle);
+        let (lower, upper) = halves(&half, edge, made, &middle);
         stack.push_halves(lower, upper);
     }
     Found::AllClear { low }
@@ -91,32 +91,34 @@ fn edge_letter(edge: u8) -> u8
     if edge == PACKING { b'y' } else { b'1' + edge }
 }
 
-/// Writes the leaf letter of the cell in hand and of the cells that are left, and answers the least low.
+/// Writes the leaf letters of the cell in hand and of the cells that are left, and answers the least low.
 fn close<S: Surface>(
     surface: &S,
     plane: &Plane,
     low: i128,
+    hand: &Leaf,
     letters: &mut Letters,
     mut stack: Stack,
 ) -> i128
     requires room { length stack.regions + 1 ≤ letters.old.spare }
     requires small { unsigned_abs low ≤ 2 ^ 107 }
-    requires parts { HaveParts (S.is_mix_low surface.now) (S.is_mix_up surface.now) (S.are_logs surface.now) (S.bounds surface.now).count plane.now.lam stack.halves }
-    ensures low { result ≤ℤ low }
+    requires hand_small { unsigned_abs hand.now.low ≤ 2 ^ 107 }
+    requires parts { HaveParts (meanings (S.bounds surface.now).count (S.is_mix_low surface.now) (S.is_mix_up surface.now) (S.are_logs surface.now) (S.is_mix_slope surface.now) (S.is_packing_slope surface.now)) plane.now.lam stack.halves }
+    ensures hand { result ≤ℤ hand.now.low }
     ensures small { unsigned_abs result ≤ 2 ^ 107 }
     ensures letters { WritesSome letters.old letters.new (length stack.regions + 1) }
-    ensures closes { Closes (S.bounds surface.now) plane.now.lam low stack.regions letters.old.items letters.new.items result }
+    ensures closes { (r : Region) → IsLeft (S.bounds surface.now) plane.now.lam r hand.now → Closes (S.bounds surface.now) plane.now.lam low (r ∷ stack.regions) letters.old.items letters.new.items result }
 {
-    letters.push(b'p');
     let n = surface.count();
-    let mut low = low;
+    letters.push(hand.letter);
+    let mut low = smaller(low, hand.low);
     while let Some(half) = stack.pop() {
         if misses(n, &half.cell) {
             letters.push(b'm');
         } else {
-            letters.push(b'p');
-            let looked = look(surface, plane, &half);
-            low = smaller(low, looked.low);
+            let leaf = left(surface, plane, &half);
+            letters.push(leaf.letter);
+            low = smaller(low, leaf.low);
         }
     }
     low

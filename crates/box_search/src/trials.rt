@@ -18,6 +18,8 @@ pub struct Trial {
 }
 
 pub const HALF: u64 = 1 << 39;
+/// No cell has slope lows from here on.
+pub const NOWHERE: u64 = 1 << 40;
 
 pub const TRIALS: [Trial; 11] = [
     // With one component the energy is a half more. The plane lies above the bottom by the tolerance,
@@ -27,6 +29,7 @@ pub const TRIALS: [Trial; 11] = [
             bottom: HALF,
             widths: 0,
             slack: 0,
+            sloped: NOWHERE,
         },
         potential: (1 << 39) + (1 << 20),
         delta: 1 << 20,
@@ -42,6 +45,7 @@ pub const TRIALS: [Trial; 11] = [
             bottom: HALF,
             widths: 0,
             slack: 0,
+            sloped: NOWHERE,
         },
         potential: (1 << 39) + (1 << 20),
         delta: (1 << 20) - 1,
@@ -64,6 +68,7 @@ pub const TRIALS: [Trial; 11] = [
             bottom: HALF,
             widths: 0,
             slack: 8,
+            sloped: NOWHERE,
         },
         potential: 1 << 39,
         delta: 4,
@@ -87,6 +92,7 @@ pub const TRIALS: [Trial; 11] = [
             bottom: HALF,
             widths: 0,
             slack: 8,
+            sloped: NOWHERE,
         },
         potential: 0,
         delta: 4,
@@ -110,6 +116,7 @@ pub const TRIALS: [Trial; 11] = [
             bottom: HALF,
             widths: 1,
             slack: 0,
+            sloped: NOWHERE,
         },
         potential: 0,
         delta: 1 << 39,
@@ -125,6 +132,7 @@ pub const TRIALS: [Trial; 11] = [
             bottom: HALF,
             widths: 1,
             slack: 0,
+            sloped: NOWHERE,
         },
         potential: 0,
         delta: 1 << 39,
@@ -139,6 +147,7 @@ pub const TRIALS: [Trial; 11] = [
             bottom: HALF,
             widths: 1,
             slack: 0,
+            sloped: NOWHERE,
         },
         potential: 0,
         delta: 1 << 39,
@@ -154,6 +163,7 @@ pub const TRIALS: [Trial; 11] = [
             bottom: 1 << 38,
             widths: 0,
             slack: 0,
+            sloped: NOWHERE,
         },
         potential: 1 << 38,
         delta: 1,
@@ -176,6 +186,7 @@ pub const TRIALS: [Trial; 11] = [
             bottom: 1 << 38,
             widths: 0,
             slack: 0,
+            sloped: NOWHERE,
         },
         potential: 1 << 38,
         delta: 1,
@@ -191,6 +202,7 @@ pub const TRIALS: [Trial; 11] = [
             bottom: 1 << 38,
             widths: 0,
             slack: 0,
+            sloped: NOWHERE,
         },
         potential: 1 << 38,
         delta: 1,
@@ -206,6 +218,7 @@ pub const TRIALS: [Trial; 11] = [
             bottom: HALF,
             widths: 1,
             slack: 0,
+            sloped: NOWHERE,
         },
         potential: 0,
         delta: 1 << 39,

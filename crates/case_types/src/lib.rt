@@ -24,7 +24,7 @@ pub use cases::{Case, Edition, Name, PAIRS, ParamFault, Row, SLOTS};
 pub use cells::{BoxX, Cell};
 pub use laws::trees_cover;
 pub use lists::{Columns, Letters, Memory, Pivots, Reserved, Rounds};
-pub use parts::{MixLow, MixUp, PackingLogs};
+pub use parts::{MixLow, MixSlope, MixUp, PackingLogs, PackingSlope};
 pub use phases::{Phase, Split};
 pub use pivots::Pivot;
 pub use planes::Plane;

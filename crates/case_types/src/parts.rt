@@ -5,6 +5,8 @@
 
 ghost use Rattle.std.specs.Prelude.{◌≤◌, ◌^◌, unsigned_abs};
 
+use log_laws::{Iv, Slope};
+
 /// What a lower bound of the energy has of its box of compositions.
 #[derive(Clone, Copy)]
 pub struct MixLow {
@@ -84,4 +86,34 @@ impl Default for PackingLogs {
             lambda_high: 0,
         }
     }
+}
+
+/// What slope lows have of the compositions of a cell and of a plane: forms about the middle of the cell.
+#[derive(Clone, Copy)]
+pub struct MixSlope {
+    /// The mixing terms.
+    pub mixing: Slope,
+    /// The logarithm of the mean co-volume.
+    pub log_covolume: Slope,
+    /// The mean attraction over the mean co-volume.
+    pub ratio: Slope,
+    /// The mean co-volume times the logarithm of e.
+    pub push: Slope,
+    pub plane: Slope,
+    /// From the middle to both ends of each free fraction, in 2^-40.
+    pub steps: [Iv; 3],
+}
+
+/// What slope lows have of the packing fractions of a cell: forms about the middle of the cell.
+#[derive(Clone, Copy)]
+pub struct PackingSlope {
+    pub packing: Slope,
+    /// The logarithm of the packing fraction.
+    pub log_packing: Slope,
+    /// The logarithm of what the packing fraction leaves of 1.
+    pub log_rest: Slope,
+    /// The logarithm of the attraction term.
+    pub lambda: Slope,
+    /// From the middle to both ends of the packing fraction, in 2^-40.
+    pub step: Iv,
 }

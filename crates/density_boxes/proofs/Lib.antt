@@ -3,3 +3,4 @@ pub mod Halvings
 pub mod Widest
 pub mod Spread
 pub mod PlaneEnds
+pub mod Middles

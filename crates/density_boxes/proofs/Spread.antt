@@ -57,6 +57,10 @@ scaled-spread n ends sum =
 abbrev pub middles : Region → List ℕ
 middles r = middle_of r 0 ∷ middle_of r 1 ∷ middle_of r 2 ∷ []
 
+pub middles_listed : (r : Region) → list_below 3 (middle_of r) ≡ middles r
+unfolding list_below
+middles_listed r = refl
+
 pub sum-middles : (n : ℕ) (r : Region) → n ≤ 4 → free_sum n (middles r) ≡ middle_sum n r
 sum-middles zero r l = refl
 sum-middles (suc zero) r l = refl

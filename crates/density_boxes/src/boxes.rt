@@ -76,7 +76,7 @@ pub fn box_at(comp: [u32; SLOTS]) -> BoxX
 }
 
 /// Fractions in 2^-20 as fractions in 2^-40.
-fn in_packing_units(fractions: [u32; SLOTS]) -> [u64; SLOTS]
+pub fn in_packing_units(fractions: [u32; SLOTS]) -> [u64; SLOTS]
     ensures { result ≡ list_below 4 (λ i. slice_index fractions i * 2 ^ 20) }
 {
     [

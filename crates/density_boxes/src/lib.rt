@@ -20,5 +20,5 @@ pub use boxes::{box_at, cell_box, misses, root};
 pub use compositions::{moles, phase_box};
 pub use edges::{PACKING, edge_to_halve, is_unit};
 pub use halves::halve;
-pub use midpoints::midpoint;
+pub use midpoints::{middle_fractions, midpoint};
 pub use planes::plane_hi;

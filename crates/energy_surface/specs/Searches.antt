@@ -1,19 +1,24 @@
 -- What a search under a plane leaves: a letter for each cell, and how it ends.
-use Rattle.std.specs.Prelude.{ℕ, ◌≡◌, ◌⊎◌, List, [], ◌++◌, map, IsTrue, IsFalse, IsSomeAnd, Option, Some, None, ℤ, neg_ℤ, ◌-ℤ◌, ◌≤ℤ◌, ◌<ℤ◌}
+use Rattle.std.specs.Prelude.{ℕ, ◌≡◌, ◌⊎◌, List, [], ◌++◌, map, cond, IsTrue, IsFalse, IsSomeAnd, Option, Some, None, ℤ, neg_ℤ, ◌-ℤ◌, ◌≤ℤ◌, ◌<ℤ◌, int_lt}
 use Rattle.case_types.specs.declared.rounds.Column.{Column}
-use Rattle.case_types.specs.Grid.Cells.{Region, region_of, root_region, misses, edge_to_halve, Misses, Plain, Sloped, Tree, Step, Ends, Halves, Visit, visits, letters_of, HasVisit, GridPoint, midpoint}
+use Rattle.case_types.specs.Grid.Cells.{Region, region_of, root_region, misses, edge_to_halve, Mark, Misses, Plain, Sloped, Tree, Step, Ends, Halves, Visit, visits, letters_of, HasVisit, HasLow, GridPoint, midpoint}
 use Rattle.case_types.specs.Grid.Columns.{point_of, plane_at_point}
-use Rattle.case_types.specs.Grid.Visits.{HasUnitEdge, EachVisit, left_visit, OfHand}
+use Rattle.case_types.specs.Grid.Visits.{HasUnitEdge, EachVisit, OfHand}
 use Rattle.energy_surface.specs.declared.found.Found.{Found}
 use Rattle.energy_surface.specs.declared.found.Found.TheVariants.{AllClear, Refuted, Spent, Grain}
 use Rattle.energy_surface.specs.Columns.{IsColumn, Refutes, point_up}
-use Rattle.energy_surface.specs.Surfaces.{Surface, Under, plain_low, low_by, IsLeafOver}
+use Rattle.energy_surface.specs.Surfaces.{Surface, Under, plain_low, slope_low, low_by, IsLeafOver}
 
 -- ---- a cell under a plane
--- the cell holds compositions, and its low doesn't clear it
+-- the slope low is there and clears the cell
+abbrev pub IsSlopeClear : Under → Region → Type 0
+IsSlopeClear u r = HasLow (neg_ℤ u.delta) (slope_low u.surface u.plane r)
+
+-- the cell holds compositions, and neither low clears it
 pub record IsUncleared (u : Under) (r : Region) : Type 0 where
   pub meets : IsFalse (misses u.surface.count r)
   pub below : plain_low u.surface u.plane r <ℤ neg_ℤ u.delta
+  pub not_sloped : IsSlopeClear u r → ⊥
 
 -- the middle of the cell cuts the plane off
 abbrev pub MiddleRefutes : Under → Region → Type 0
@@ -25,11 +30,11 @@ pub record IsStuck (u : Under) (r : Region) : Type 0 where
   pub not_refuting : MiddleRefutes u r → ⊥
 
 -- ---- letters
--- the letter of a cell has its cause; no slope low is made, and so none clears a cell
+-- the letter of a cell has its cause; `s` stands only where the plain low doesn't clear the cell
 abbrev pub HasStepCause : Under → Region → Step → Type 0
 HasStepCause u r (Ends Misses) = IsTrue (misses u.surface.count r)
 HasStepCause u r (Ends Plain) = IsFalse (misses u.surface.count r) × (neg_ℤ u.delta ≤ℤ plain_low u.surface u.plane r)
-HasStepCause u r (Ends Sloped) = ⊥
+HasStepCause u r (Ends Sloped) = IsFalse (misses u.surface.count r) × (plain_low u.surface u.plane r <ℤ neg_ℤ u.delta) × IsSlopeClear u r
 HasStepCause u r (Halves edge) = IsStuck u r × (HasUnitEdge u.surface.count r → ⊥) × (edge ≡ edge_to_halve u.surface.count r)
 
 -- so has the letter of every visit
@@ -90,10 +95,22 @@ HasEndCause u (Refuted kept) left = OfHand (IsCutOff u kept) left
 HasEndCause u (Spent low) left = OfHand (WantsUnit u) left
 HasEndCause u (Grain low cell) left = OfHand (IsGrainOf u (region_of cell)) left
 
+-- which of two lows a cell stands by: the slope low where it is there and above the plain one
+abbrev pub mark_by : ℤ → Option ℤ → Mark
+mark_by plain None = Plain
+mark_by plain (Some sloped) = cond (int_lt plain sloped) Sloped Plain
+
+-- a cell that is left when a search stops: `m` where it misses, else by the greater of its lows
+abbrev pub left_mark : Surface → List ℤ → Region → Mark
+left_mark s lam r = cond (misses s.count r) Misses (mark_by (plain_low s lam r) (slope_low s lam r))
+
+abbrev pub left_visit : Surface → List ℤ → Region → Visit
+left_visit s lam r = record { region = r; step = Ends (left_mark s lam r) }
+
 -- the cells that are left get leaf letters, but not where the plane is cut off
-abbrev pub closing : ℕ → Option ℤ → List Region → List Visit
-closing n None left = []
-closing n (Some low) left = map (left_visit n) left
+abbrev pub closing : Surface → List ℤ → Option ℤ → List Region → List Visit
+closing s lam None left = []
+closing s lam (Some low) left = map (left_visit s lam) left
 
 -- the low is the least of the whole walk
 abbrev pub HasLeastLow : Surface → List ℤ → Option ℤ → List Visit → Type 0
@@ -106,8 +123,8 @@ pub record IsSearched (u : Under) (found : Found) (letters : List ℕ) : Type 0 
   -- the cells that have their letter, and those that are left, the cell in hand first
   pub before : List Visit
   pub left : List Region
-  pub preorder : visits tree (root_region u.surface.count) ≡ before ++ map (left_visit u.surface.count) left
+  pub preorder : visits tree (root_region u.surface.count) ≡ before ++ map (left_visit u.surface u.plane) left
   pub caused : HaveCauses u before
   pub ends : HasEndCause u found left
-  pub written : letters ≡ letters_of (before ++ closing u.surface.count (low_of found) left)
+  pub written : letters ≡ letters_of (before ++ closing u.surface u.plane (low_of found) left)
   pub low : HasLeastLow u.surface u.plane (low_of found) (visits tree (root_region u.surface.count))

@@ -6,12 +6,12 @@ use Rattle.std.proofs.lemmas.Int.{ints, clamps}
 use Rattle.std.proofs.Math.Nat.{mul-pos}
 use Rattle.std.proofs.Math.IntN.{*ℤ_comm}
 use Rattle.log_laws.specs.Whole.{floor_over, ceil_over, floor_div, ceil_div, positive_part}
-use Rattle.log_laws.specs.Fraction.{Fraction, sum_of, negated, difference, product_of, quotient_of}
+use Rattle.log_laws.specs.Fraction.{Fraction, IsFraction, IsSame, sum_of, negated, difference, product_of, quotient_of}
 use Rattle.log_laws.specs.Between.{Ends, IsBetween}
-use Rattle.log_laws.proofs.Exports.{mul-le_ℤ, add-mul_ℤ, neg-mul, ≤ℤ_trans, scale_scale, scale_turned, add_above, add_below, product_low, product_high}
+use Rattle.log_laws.proofs.Exports.{mul-le_ℤ, le_of_mul-le_ℤ, add-mul_ℤ, neg-mul, ≤ℤ_trans, mul_right_comm_ℤ, scale_scale, scale_turned, add_above, add_below, product_low, product_high}
 use Rattle.log_laws.specs.Interval.{ends}
 use Rattle.fix_interval.specs.Extremes.{least_of_four, greatest_of_four, nearest_to_zero}
-use Rattle.fix_interval.proofs.Cancel.{le-of_mul-le_ℤ, scales_swapped, product_cancels_low, product_cancels_high}
+use Rattle.fix_interval.proofs.Cancel.{scales_swapped, product_cancels_low, product_cancels_high}
 use Rattle.fix_interval.proofs.Corners.{least_bounds, greatest_bounds}
 use Rattle.fix_interval.proofs.Nearest.{square_low, mul-le-squares}
 use Rattle.fix_interval.proofs.Division.{quotients_low, quotients_high}
@@ -26,6 +26,18 @@ IsBetween-wider v w s f l h k = record {
 -- the numerator of a sum, scaled
 sum_scaled : (p u : ℤ) (q v s : ℕ) → (p *ℤ pos v +ℤ u *ℤ pos q) *ℤ pos s ≡ (p *ℤ pos s) *ℤ pos v +ℤ (u *ℤ pos s) *ℤ pos q
 sum_scaled p u q v s = rw (add-mul_ℤ (p *ℤ pos v) (u *ℤ pos q) (pos s), scales_swapped p v s, scales_swapped u q s)
+
+-- another spelling of the fraction
+pub IsBetween-same : (e : Ends) (s : ℕ) (f g : Fraction) → IsFraction g → IsSame f g → IsBetween e s f → IsBetween e s g
+IsBetween-same e s f g pg q b = record {
+  is_fraction = pg;
+  above = le_of_mul-le_ℤ (e.lo *ℤ pos g.den) (g.num *ℤ pos s) f.den b.is_fraction
+      (rw (mul_right_comm_ℤ e.lo (pos f.den) (pos g.den), mul_right_comm_ℤ g.num (pos f.den) (pos s), ← q, mul_right_comm_ℤ f.num (pos s) (pos g.den))
+      (mul-le_ℤ (e.lo *ℤ pos f.den) (f.num *ℤ pos s) g.den b.above));
+  below = le_of_mul-le_ℤ (g.num *ℤ pos s) (e.hi *ℤ pos g.den) f.den b.is_fraction
+      (rw (mul_right_comm_ℤ e.hi (pos f.den) (pos g.den), mul_right_comm_ℤ g.num (pos f.den) (pos s), ← q, mul_right_comm_ℤ f.num (pos s) (pos g.den))
+      (mul-le_ℤ (f.num *ℤ pos s) (e.hi *ℤ pos f.den) g.den b.below));
+}
 
 pub IsBetween-sum_of : (v w : Ends) (s : ℕ) (f g : Fraction) → IsBetween v s f → IsBetween w s g →
     IsBetween (ends (v.lo +ℤ w.lo) (v.hi +ℤ w.hi)) s (sum_of f g)
@@ -126,10 +138,10 @@ IsBetween-quotient_of v w k f g s t r one order e h i =
     let t_positive : 0 < t = factor_positive t u (omega (arith, some)) in
     record {
       is_fraction = mul-pos h.is_fraction (factor_positive u t some);
-      above = le-of_mul-le_ℤ (lowest *ℤ pos (f.den * u)) ((f.num *ℤ pos g.den) *ℤ pos r) t t_positive
+      above = le_of_mul-le_ℤ (lowest *ℤ pos (f.den * u)) ((f.num *ℤ pos g.den) *ℤ pos r) t t_positive
           (rw (scale_scale lowest (f.den * u) t, mul_assoc f.den u t, ← quotient_scaled f.num g.den s k r t e)
           (quotients_low v.lo x k b c (u * t) f.den g.den above_zero low high h.above));
-      below = le-of_mul-le_ℤ ((f.num *ℤ pos g.den) *ℤ pos r) (greatest *ℤ pos (f.den * u)) t t_positive
+      below = le_of_mul-le_ℤ ((f.num *ℤ pos g.den) *ℤ pos r) (greatest *ℤ pos (f.den * u)) t t_positive
           (rw (scale_scale greatest (f.den * u) t, mul_assoc f.den u t, ← quotient_scaled f.num g.den s k r t e)
           (quotients_high v.hi x k b c (u * t) f.den g.den above_zero low high h.below));
     }

@@ -1,19 +1,12 @@
 -- Positive scales on both sides of an order cancel; floors and ceilings keep an order.
-use Rattle.std.proofs.Common.{◌≡◌, ℕ, ◌*◌, ◌<◌, ℤ, pos, ◌+ℤ◌, ◌*ℤ◌, ◌≤ℤ◌, arith, sym, ap, ◌∙◌}
-use Rattle.std.proofs.lemmas.Int.{ints, by_lt_z}
+use Rattle.std.proofs.Common.{◌≡◌, ℕ, ◌*◌, ◌<◌, ℤ, pos, ◌*ℤ◌, ◌≤ℤ◌, sym, ap, ◌∙◌}
 use Rattle.log_laws.specs.Whole.{floor_over, ceil_over}
-use Rattle.log_laws.proofs.Exports.{mul-le_ℤ, add-mul_ℤ, floor_over-le, le-ceil_over, ≤ℤ_trans, scale_scale, scale_turned, swap_scales}
-
-pub le-of_mul-le_ℤ : (a b : ℤ) (k : ℕ) → 0 < k → (a *ℤ pos k) ≤ℤ (b *ℤ pos k) → a ≤ℤ b
-le-of_mul-le_ℤ a b k h e =
-    by_lt_z b a
-    (λ l. absurd (omega (arith, ints, mul-le_ℤ (b +ℤ pos 1) a k (omega (arith, ints)), add-mul_ℤ b (pos 1) (pos k))))
-    (λ g. g)
+use Rattle.log_laws.proofs.Exports.{le_of_mul-le_ℤ, floor_over-le, le-ceil_over, ≤ℤ_trans, scale_scale, scale_turned, swap_scales}
 
 -- the floor of the lesser is at most the ceiling of the greater
 pub floor_over-le-ceil_over : (m n : ℤ) (k : ℕ) → 0 < k → m ≤ℤ n → floor_over m k ≤ℤ ceil_over n k
 floor_over-le-ceil_over m n k h e =
-    le-of_mul-le_ℤ (floor_over m k) (ceil_over n k) k h
+    le_of_mul-le_ℤ (floor_over m k) (ceil_over n k) k h
     (≤ℤ_trans (floor_over m k *ℤ pos k) m (ceil_over n k *ℤ pos k) (floor_over-le m k h) (≤ℤ_trans m n (ceil_over n k *ℤ pos k) e (le-ceil_over n k h)))
 
 -- two scales in a row, the other way round
@@ -29,11 +22,11 @@ product_scaled p u s t r k e =
 pub product_cancels_low : (n p u : ℤ) (k d s t r : ℕ) → 0 < k → s * t ≡ r * k →
     (n *ℤ pos (k * d)) ≤ℤ ((p *ℤ pos s) *ℤ (u *ℤ pos t)) → (n *ℤ pos d) ≤ℤ ((p *ℤ u) *ℤ pos r)
 product_cancels_low n p u k d s t r z e h =
-    le-of_mul-le_ℤ (n *ℤ pos d) ((p *ℤ u) *ℤ pos r) k z
+    le_of_mul-le_ℤ (n *ℤ pos d) ((p *ℤ u) *ℤ pos r) k z
     (rw (scale_turned n k d, ← product_scaled p u s t r k e) h)
 
 pub product_cancels_high : (n p u : ℤ) (k d s t r : ℕ) → 0 < k → s * t ≡ r * k →
     ((p *ℤ pos s) *ℤ (u *ℤ pos t)) ≤ℤ (n *ℤ pos (k * d)) → ((p *ℤ u) *ℤ pos r) ≤ℤ (n *ℤ pos d)
 product_cancels_high n p u k d s t r z e h =
-    le-of_mul-le_ℤ ((p *ℤ u) *ℤ pos r) (n *ℤ pos d) k z
+    le_of_mul-le_ℤ ((p *ℤ u) *ℤ pos r) (n *ℤ pos d) k z
     (rw (scale_turned n k d, ← product_scaled p u s t r k e) h)

@@ -1,9 +1,11 @@
 -- The extremes of the quotients of two intervals' values.
-use Rattle.std.proofs.Common.{◌≡◌, ℕ, suc, ◌*◌, ◌<◌, ◌≤◌, ◌/◌, ℤ, pos, negsuc, neg_ℤ, ◌*ℤ◌, ◌≤ℤ◌, arith, sym, ap, ◌∙◌}
+use Rattle.std.proofs.Common.{◌≡◌, ℕ, suc, ◌*◌, ◌<◌, ◌≤◌, ◌/◌, ℤ, pos, negsuc, neg_ℤ, ◌*ℤ◌, ◌≤ℤ◌, unsigned_abs, refl, arith, sym, ap, ◌∙◌}
 use Rattle.std.specs.Int.{int_min, int_max}
 use Rattle.std.proofs.lemmas.Int.{ints, clamps}
-use Rattle.std.proofs.Math.Nat.{mul-le-mul_left, mul-le-mul_right, mul_assoc, div-mul-le_self, lt-div-mul-add, le_trans}
-use Rattle.log_laws.specs.Whole.{floor_over, ceil_over}
+use Rattle.std.proofs.Math.Nat.{mul-le-mul_left, mul-le-mul_right, mul_assoc, div-mul-le_self, lt-div-mul-add, le_trans, zero-div}
+use Rattle.std.proofs.lemmas.Nat.{le-div}
+use Rattle.std.proofs.Math.IntN.{zero-*ℤ}
+use Rattle.log_laws.specs.Whole.{floor_over, ceil_over, floor_div}
 use Rattle.log_laws.proofs.Exports.{mul-le_ℤ, neg-mul, ≤ℤ_trans, scale_scale, scale_turned}
 
 -- X over a number between b and c is at least the lesser of the floors at b and c
@@ -19,7 +21,7 @@ quotient_low (negsuc x) b c r s z h k =
     let f : suc x * s ≤ suc (x / b) * r = le_trans (rw (mul_assoc (suc (x / b)) b s) at (mul-le-mul_right s g)) (mul-le-mul_left (suc (x / b)) h) in
     ≤ℤ_trans (m *ℤ pos r) (negsuc (x / b) *ℤ pos r) (negsuc x *ℤ pos s) (mul-le_ℤ m (negsuc (x / b)) r (omega (arith, ints, clamps))) (omega (arith, ints, f))
 
-max-neg : (u v : ℤ) → int_max (neg_ℤ u) (neg_ℤ v) ≡ neg_ℤ (int_min u v)
+pub max-neg : (u v : ℤ) → int_max (neg_ℤ u) (neg_ℤ v) ≡ neg_ℤ (int_min u v)
 max-neg u v = omega (arith, ints, clamps)
 
 pub quotient_high : (X : ℤ) (b c r s : ℕ) → 0 < b → b * s ≤ r → r ≤ c * s →
@@ -51,3 +53,26 @@ quotients_high a p k b c r q s z h g e =
     let t : (X *ℤ pos s) *ℤ pos q ≡ ((a *ℤ pos q) *ℤ pos k) *ℤ pos s =
     scale_turned X q s ∙ sym (scale_scale X q s) ∙ ap (λ y. y *ℤ pos s) (scale_turned a q k ∙ sym (scale_scale a q k)) in
     rw (← scale_turned m q r) (≤ℤ_trans ((p *ℤ pos k) *ℤ pos s) ((X *ℤ pos s) *ℤ pos q) ((m *ℤ pos r) *ℤ pos q) (rw t two) one)
+
+-- ---- the lesser of the floors of two quotients, by the sign of the dividend
+quotients_fall : (a b c : ℕ) → 0 < b → b ≤ c → a / c ≤ a / b
+quotients_fall a b c h k = le-div (a / c) a b h (le_trans (mul-le-mul_left (a / c) k) (div-mul-le_self a c))
+
+floor_by_greater : (z : ℤ) (b c : ℕ) → 0 < b → b ≤ c → pos 0 ≤ℤ z → int_min (floor_over z b) (floor_over z c) ≡ floor_over z c
+floor_by_greater (pos a) b c h k n = omega (arith, ints, clamps, quotients_fall a b c h k)
+floor_by_greater (negsuc a) b c h k n = absurd (omega (arith, ints, n))
+
+floor_by_less : (z : ℤ) (b c : ℕ) → 0 < b → b ≤ c → z ≤ℤ pos 0 → int_min (floor_over z b) (floor_over z c) ≡ floor_over z b
+floor_by_less (pos a) b c h k n = let e : a ≡ 0 = omega (arith, ints, n) in rw (e, zero-div b, zero-div c) refl
+floor_by_less (negsuc a) b c h k n = omega (arith, ints, clamps, quotients_fall a b c h k)
+
+-- z times k over ends b and c
+pub least_by_greater : (z b c : ℤ) (k : ℕ) → pos 1 ≤ℤ b → b ≤ℤ c → pos 0 ≤ℤ z → int_min (floor_div (z *ℤ pos k) b) (floor_div (z *ℤ pos k) c) ≡ floor_div (z *ℤ pos k) c
+least_by_greater z b c k h o n =
+    floor_by_greater (z *ℤ pos k) (unsigned_abs b) (unsigned_abs c) (omega (arith, ints, h)) (omega (arith, ints, h, o))
+    (rw (zero-*ℤ (pos k)) at (mul-le_ℤ (pos 0) z k n))
+
+pub least_by_less : (z b c : ℤ) (k : ℕ) → pos 1 ≤ℤ b → b ≤ℤ c → z ≤ℤ pos 0 → int_min (floor_div (z *ℤ pos k) b) (floor_div (z *ℤ pos k) c) ≡ floor_div (z *ℤ pos k) b
+least_by_less z b c k h o n =
+    floor_by_less (z *ℤ pos k) (unsigned_abs b) (unsigned_abs c) (omega (arith, ints, h)) (omega (arith, ints, h, o))
+    (rw (zero-*ℤ (pos k)) at (mul-le_ℤ z (pos 0) k n))

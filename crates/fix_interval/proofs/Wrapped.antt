@@ -1,9 +1,8 @@
 -- What calls gave, without the steps through bits.
-use Rattle.std.proofs.Common.{◌≡◌, ℕ, ◌*◌, ◌%◌, ◌<◌, ◌≤◌, ◌^◌, ℤ, pos, ◌*ℤ◌, ◌≤ℤ◌, unsigned_abs, arith, to_z, of_z}
-use Rattle.std.specs.Int.{int_min, int_max, w128}
-use Rattle.std.proofs.lemmas.Int.{ints, clamps, to_z_pos, unsigned_abs-mul}
+use Rattle.std.proofs.Common.{◌≡◌, ℕ, ◌*◌, ◌%◌, ◌<◌, ◌≤◌, ◌^◌, ℤ, pos, neg_ℤ, ◌-ℤ◌, ◌*ℤ◌, ◌≤ℤ◌, unsigned_abs, arith, to_z, of_z, ◌∙◌}
+use Rattle.std.specs.Int.{int_min, int_max, w64, w128}
+use Rattle.std.proofs.lemmas.Int.{ints, clamps, to_z_pos, to_z-of_z, fits_signed_from_abs, unsigned_abs-mul}
 use Rattle.std.proofs.lemmas.Nat.{mul-lt, one_shl, pow_below}
-use Rattle.log_laws.specs.Whole.{floor_div, ceil_div}
 use Rattle.log_laws.proofs.Exports.{back}
 use Rattle.log_laws.specs.declared.iv.Iv.{Iv}
 use Rattle.fix_interval.specs.Extremes.{least_of_four, greatest_of_four, least_product, greatest_product}
@@ -11,6 +10,11 @@ use Rattle.fix_interval.proofs.Corners.{least_small, greatest_small}
 
 pub product_small : (a b : ℤ) → unsigned_abs a < 2 ^ 62 → unsigned_abs b < 2 ^ 62 → unsigned_abs (a *ℤ b) < 2 ^ 124
 product_small a b h k = rw (unsigned_abs-mul a b) (mul-lt (unsigned_abs a) (unsigned_abs b) (2 ^ 62) (2 ^ 62) h k)
+
+-- a number that was narrowed to 64 bits and widened again
+pub narrowed : (z : ℤ) → unsigned_abs z < 2 ^ 62 → to_z w128 (of_z w128 (to_z w64 (of_z w64 (to_z w128 (of_z w128 z))))) ≡ z
+narrowed z h =
+    rw (back z (omega (arith, h)), to_z-of_z w64 z (fits_signed_from_abs w64 z (omega (arith, h)))) (back z (omega (arith, h)))
 
 -- the product x of a and b
 pub product_is : (a b x : ℤ) → unsigned_abs a < 2 ^ 62 → unsigned_abs b < 2 ^ 62 →
@@ -61,28 +65,12 @@ scaled_small z k h g = rw (unsigned_abs-mul z (pos (2 ^ k))) (mul-lt (unsigned_a
 pub scaled_is : (a x : ℤ) (k : ℕ) → unsigned_abs a < 2 ^ 62 → x ≡ to_z w128 (of_z w128 a) *ℤ pos k → x ≡ a *ℤ pos k
 scaled_is a x k h e = rw (back a (omega arith)) at e
 
--- the lesser m of two quotients f and g of x
-pub least_quotient_is : (x b c f g m : ℤ) → unsigned_abs x < 2 ^ 123 → unsigned_abs b < 2 ^ 62 → unsigned_abs c < 2 ^ 62 →
-    unsigned_abs f ≤ 2 ^ 123 → unsigned_abs g ≤ 2 ^ 123 →
-    f ≡ floor_div (to_z w128 (of_z w128 x)) (to_z w128 (of_z w128 b)) →
-    g ≡ floor_div (to_z w128 (of_z w128 x)) (to_z w128 (of_z w128 c)) →
-    m ≡ int_min (to_z w128 (of_z w128 f)) (to_z w128 (of_z w128 g)) → m ≡ int_min (floor_div x b) (floor_div x c)
-least_quotient_is x b c f g m hx hb hc hf hg ef eg em =
-    let f_is = rw (back x (omega arith), back b (omega arith)) at ef in
-    let g_is = rw (back x (omega arith), back c (omega arith)) at eg in
-    let m_is = rw (back f (omega arith), back g (omega arith)) at em in
-    rw (f_is, g_is) at m_is
-
-pub greatest_quotient_is : (x b c f g m : ℤ) → unsigned_abs x < 2 ^ 123 → unsigned_abs b < 2 ^ 62 → unsigned_abs c < 2 ^ 62 →
-    unsigned_abs f ≤ 2 ^ 123 → unsigned_abs g ≤ 2 ^ 123 →
-    f ≡ ceil_div (to_z w128 (of_z w128 x)) (to_z w128 (of_z w128 b)) →
-    g ≡ ceil_div (to_z w128 (of_z w128 x)) (to_z w128 (of_z w128 c)) →
-    m ≡ int_max (to_z w128 (of_z w128 f)) (to_z w128 (of_z w128 g)) → m ≡ int_max (ceil_div x b) (ceil_div x c)
-greatest_quotient_is x b c f g m hx hb hc hf hg ef eg em =
-    let f_is = rw (back x (omega arith), back b (omega arith)) at ef in
-    let g_is = rw (back x (omega arith), back c (omega arith)) at eg in
-    let m_is = rw (back f (omega arith), back g (omega arith)) at em in
-    rw (f_is, g_is) at m_is
+-- a quotient with its sign changed
+pub opposite_of : (z : ℤ) → unsigned_abs z ≤ 2 ^ 123 → to_z w128 (of_z w128 (pos 0 -ℤ to_z w128 (of_z w128 z))) ≡ neg_ℤ z
+opposite_of z h = rw (back z (omega (arith, h))) (back (pos 0 -ℤ z) (omega (arith, ints, h)) ∙ zero_less z)
+  where
+    zero_less : (z : ℤ) → pos 0 -ℤ z ≡ neg_ℤ z
+    zero_less z = omega (arith, ints)
 
 pub lesser-le-greater : (f g x y : ℤ) → f ≤ℤ x → int_min f g ≤ℤ int_max x y
 lesser-le-greater f g x y h = omega (arith, ints, clamps)

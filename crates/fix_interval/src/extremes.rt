@@ -6,14 +6,14 @@ ghost use Rattle.fix_interval.specs.Extremes.{least_product, greatest_product, l
 
 use log_laws::Iv;
 
-/// The product of two ends.
+/// The product of two ends, which 64 bits hold.
 fn product(x: i128, y: i128) -> i128
     requires x { unsigned_abs x < 2 ^ 62 }
     requires y { unsigned_abs y < 2 ^ 62 }
     ensures value { result ≡ x *ℤ y }
     ensures small { unsigned_abs result < 2 ^ 124 }
 {
-    x * y
+    (x as i64 as i128) * (y as i64 as i128)
 }
 
 /// The least and the greatest of the products of a value of `a` and a value of `b`.

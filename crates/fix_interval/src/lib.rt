@@ -17,6 +17,7 @@ mod ratio;
 mod tests;
 
 pub use capped::cap;
+pub use extremes::outward;
 pub use linear::{affine_high, affine_low};
 pub use log_laws::Iv;
 pub use ops::{add, hull, sub};

@@ -1,7 +1,8 @@
 //! Quotients.
 
 ghost use Rattle.std.specs.Prelude.{◌≡◌, ℕ, ◌*◌, ◌<◌, ◌≤◌, ◌^◌, pos, ◌*ℤ◌, ◌≤ℤ◌, unsigned_abs};
-ghost use Rattle.log_laws.specs.Whole.{floor_div, ceil_div};
+ghost use Rattle.std.specs.Int.{int_min};
+ghost use Rattle.log_laws.specs.Whole.{floor_div};
 ghost use Rattle.log_laws.specs.Fraction.{Fraction, quotient_of};
 ghost use Rattle.log_laws.specs.Between.{IsBetween};
 ghost use Rattle.log_laws.specs.Interval.{ends, ends_of};
@@ -29,14 +30,17 @@ fn floor_quotient(z: i128, d: i128) -> i128
     z.div_euclid(d)
 }
 
-/// `z` over `d`, rounded up.
-fn ceil_quotient(z: i128, d: i128) -> i128
-    requires z { unsigned_abs z < 2 ^ 123 }
-    requires d { pos 1 ≤ℤ d }
-    ensures value { result ≡ ceil_div z d }
+/// `z` times 2^`shift` over a value of `b`, at least, rounded down: a negative number's quotient by the least divisor, and
+/// another's by the greatest.
+fn least(z: i128, b: Iv, shift: u32) -> i128
+    requires z { unsigned_abs z < 2 ^ 62 }
+    requires positive { pos 1 ≤ℤ b.lo }
+    requires shift { shift ≤ 60 }
+    ensures value { result ≡ int_min (floor_div (z *ℤ pos (2 ^ shift)) b.lo) (floor_div (z *ℤ pos (2 ^ shift)) b.hi) }
     ensures small { unsigned_abs result ≤ 2 ^ 123 }
 {
-    -floor_quotient(-z, d)
+    let divisor = if z < 0 { b.lo } else { b.hi };
+    floor_quotient(scaled(z, shift), divisor)
 }
 
 /// The ends of the quotients of a value of `a` by a value of `b`, times 2^`shift`: the least
@@ -54,11 +58,7 @@ pub fn div_ends(a: Iv, b: Iv, shift: u32) -> (i128, i128)
         IsBetween (ends_of a) s f → IsBetween (ends_of b) t g →
         IsBetween (ends result.0 result.1) r (quotient_of f g) }
 {
-    let low = scaled(a.lo, shift);
-    let high = scaled(a.hi, shift);
-    let lo = floor_quotient(low, b.lo).min(floor_quotient(low, b.hi));
-    let hi = ceil_quotient(high, b.lo).max(ceil_quotient(high, b.hi));
-    (lo, hi)
+    (least(a.lo, b, shift), -least(-a.hi, b, shift))
 }
 
 /// The interval of the quotients of a value of `a` by a value of `b`, times 2^`shift`, with the

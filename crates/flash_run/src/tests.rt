@@ -297,7 +297,7 @@ fn flashes_near_saturation(rt: HostRuntime) -> Result<(), Fail> {
     let table = GASES.as_bytes().to_vec(alloc)?;
     let (status, sink) = run_in_pieces(alloc, words, table, 4096, &[], &[])?;
     assert_eq!(rt; status, 0);
-    assert!(rt; sink.held().starts_with(b"closed units=81\n"));
+    assert!(rt; sink.held().starts_with(b"closed units=20\n"));
     Ok(())
 }
 

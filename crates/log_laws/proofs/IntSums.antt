@@ -2,7 +2,8 @@
 use Rattle.std.proofs.Common.{◌≡◌, ℕ, zero, suc, ◌<◌, inl, inr, ℤ, pos, ◌+ℤ◌, ◌*ℤ◌, ◌≤ℤ◌, neg_ℤ, refl, arith, sym}
 use Rattle.std.proofs.lemmas.Bool.{cases_lt}
 use Rattle.std.proofs.lemmas.Int.{ints}
-use Rattle.log_laws.proofs.Ring.{mul-add_ℤ}
+use Rattle.std.proofs.Math.IntN.{zero-*ℤ}
+use Rattle.log_laws.proofs.Ring.{mul-add_ℤ, add-mul_ℤ, mul_right_comm_ℤ}
 use Rattle.log_laws.specs.Sums.{sum_below, int_sum_below}
 
 pub sum-same : (n : ℕ) (f g : ℕ → ℤ) → ((k : ℕ) → k < n → f k ≡ g k) → int_sum_below n f ≡ int_sum_below n g
@@ -34,6 +35,13 @@ unfolding int_sum_below
 sum-scaled zero z f = sym (times_nothing z)
 sum-scaled (suc n) z f = rw (sum-scaled n z f, mul-add_ℤ z (int_sum_below n f) (f n)) refl
 
+-- a factor of each weight
+pub sum-times : (n : ℕ) (s z : ℕ → ℤ) (c : ℤ) → int_sum_below n (λ k. (s k *ℤ c) *ℤ z k) ≡ int_sum_below n (λ k. s k *ℤ z k) *ℤ c
+unfolding int_sum_below
+sum-times zero s z c = sym (zero-*ℤ c)
+sum-times (suc n) s z c =
+    rw (sum-times n s z c, mul_right_comm_ℤ (s n) (z n) c, ← add-mul_ℤ (int_sum_below n (λ k. s k *ℤ z k)) (s n *ℤ z n) c) refl
+
 pub sum-nothing : (n : ℕ) → int_sum_below n (λ k. pos 0) ≡ pos 0
 unfolding int_sum_below
 sum-nothing zero = refl
@@ -60,6 +68,14 @@ pub sum-order : (n : ℕ) (f g : ℕ → ℤ) → ((k : ℕ) → k < n → f k �
 unfolding int_sum_below
 sum-order zero f g h = nothing_order
 sum-order (suc n) f g h = add_order _ _ _ _ (sum-order n f g (λ k l. h k (omega arith))) (h n (omega arith))
+
+-- over a scale
+pub sum-order_scaled : (n : ℕ) (f g : ℕ → ℤ) (d : ℕ) → ((k : ℕ) → k < n → (f k *ℤ pos d) ≤ℤ g k) → (int_sum_below n f *ℤ pos d) ≤ℤ int_sum_below n g
+unfolding int_sum_below
+sum-order_scaled zero f g d h = rw (zero-*ℤ (pos d)) nothing_order
+sum-order_scaled (suc n) f g d h =
+    rw (add-mul_ℤ (int_sum_below n f) (f n) (pos d))
+    (add_order _ _ _ _ (sum-order_scaled n f g d (λ k l. h k (omega (arith, l)))) (h n (omega arith)))
 
 -- ---- numbers that aren't negative
 add_up : (a b : ℤ) → pos 0 ≤ℤ a → pos 0 ≤ℤ b → pos 0 ≤ℤ (a +ℤ b)

@@ -28,5 +28,13 @@ pub mod Signs
 pub mod Floors
 pub mod Lowest
 pub mod Uppers
+pub mod Spellings
+pub mod FractionDifferences
+pub mod Dropping
+pub mod Merging
+pub mod ChangeRules
+pub mod MeanChanges
+pub mod MeanSpellings
+pub mod ChangeSums
 pub mod Exports
 mod ByNumbers

@@ -15,6 +15,9 @@ down-mul a b = (product_is a b).1
 pub mul_assoc_ℤ : (a b c : ℤ) → (a *ℤ b) *ℤ c ≡ a *ℤ (b *ℤ c)
 mul_assoc_ℤ a b c = same_in ((a *ℤ b) *ℤ c) (a *ℤ (b *ℤ c)) (simp (up-mul, down-mul) (omega arith))
 
+pub mul_right_comm_ℤ : (a b c : ℤ) → (a *ℤ c) *ℤ b ≡ (a *ℤ b) *ℤ c
+mul_right_comm_ℤ a b c = mul_assoc_ℤ a c b ∙ ap (λ (z : ℤ). a *ℤ z) (*ℤ_comm c b) ∙ sym (mul_assoc_ℤ a b c)
+
 pub mul-add_ℤ : (a b c : ℤ) → a *ℤ (b +ℤ c) ≡ a *ℤ b +ℤ a *ℤ c
 mul-add_ℤ a b c =
     omega (arith, ints, ap (λ n. up a * n) (sum_is_lem b c), ap (λ n. down a * n) (sum_is_lem b c))
@@ -48,6 +51,9 @@ lt-floor_over (negsuc a) d h = omega (arith, ints, div-mul-le_self a d)
 
 pub neg-mul : (a b : ℤ) → neg_ℤ a *ℤ b ≡ neg_ℤ (a *ℤ b)
 neg-mul a b = omega (arith, ints, ap (λ n. n * up b) (neg_is a).0, ap (λ n. n * down b) (neg_is a).0, ap (λ n. n * up b) (neg_is a).1, ap (λ n. n * down b) (neg_is a).1)
+
+pub mul-neg : (a b : ℤ) → a *ℤ neg_ℤ b ≡ neg_ℤ (a *ℤ b)
+mul-neg a b = rw (*ℤ_comm a (neg_ℤ b), *ℤ_comm a b) (neg-mul b a)
 
 pub le-ceil_over : (z : ℤ) (d : ℕ) → 0 < d → z ≤ℤ (ceil_over z d *ℤ pos d)
 le-ceil_over z d h = rw (neg-mul (floor_over (neg_ℤ z) d) (pos d)) (omega (arith, ints, floor_over-le (neg_ℤ z) d h))

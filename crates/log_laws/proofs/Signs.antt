@@ -1,5 +1,5 @@
 -- Signs and the order of products of integers, and factors that cancel.
-use Rattle.std.proofs.Common.{◌≡◌, ℕ, suc, ◌*◌, ◌<◌, ◌⊎◌, inl, inr, ℤ, pos, negsuc, ◌+ℤ◌, ◌*ℤ◌, ◌≤ℤ◌, ◌<ℤ◌, ap, ◌∙◌, arith}
+use Rattle.std.proofs.Common.{◌≡◌, ℕ, suc, ◌*◌, ◌<◌, ◌⊎◌, inl, inr, ℤ, pos, negsuc, ◌+ℤ◌, ◌*ℤ◌, ◌≤ℤ◌, ◌<ℤ◌, neg_ℤ, ap, ◌∙◌, arith}
 use Rattle.std.proofs.Math.IntN.{*ℤ_comm}
 use Rattle.std.proofs.Math.Nat.{mul-pos, eq_of_mul-eq-mul_left}
 use Rattle.std.proofs.lemmas.Bool.{cases_lt}
@@ -12,6 +12,11 @@ no_less (pos a) (pos b) = elim (cases_lt b a) [ inl h ↦ inr (omega (arith, int
 no_less (pos a) (negsuc b) = inr (omega (arith, ints))
 no_less (negsuc a) (pos b) = inl (omega (arith, ints))
 no_less (negsuc a) (negsuc b) = elim (cases_lt a b) [ inl h ↦ inr (omega (arith, ints, h)) | inr h ↦ inl (omega (arith, ints, h)) ]
+
+-- a number or its opposite isn't negative
+pub either_sign : (z : ℤ) → (pos 0 ≤ℤ z) ⊎ (pos 0 ≤ℤ neg_ℤ z)
+either_sign (pos n) = inl (omega (arith, ints))
+either_sign (negsuc n) = inr (omega (arith, ints))
 
 -- ---- signs of products
 pub products_up : (a b : ℤ) → pos 0 ≤ℤ a → pos 0 ≤ℤ b → pos 0 ≤ℤ (a *ℤ b)

@@ -1,43 +1,16 @@
 -- Upper bounds of log sums, by lower bounds of the opposites.
-use Rattle.std.proofs.Common.{ℕ, ◌+◌, ◌*◌, ◌<◌, ◌≤◌, ◌≡◌, refl, sym, ap, ap₂, List, [], ◌∷◌, ◌++◌, arith}
-use Rattle.std.proofs.Math.IntN.{*ℤ_comm}
+use Rattle.std.proofs.Common.{ℕ, ◌+◌, ◌*◌, ◌<◌, ◌≤◌, ◌≡◌, arith}
 use Rattle.std.proofs.lemmas.Int.{ints}
 use Rattle.std.specs.Prelude.{◌≤ℤ◌}
 use lib.IntN.{ℤ, pos, neg_ℤ, ◌+ℤ◌, ◌*ℤ◌}
 use Rattle.log_laws.specs.Fraction.{Fraction, IsFraction, IsAtMost, negated, product_of}
-use Rattle.log_laws.specs.LogSum.{Term, LogSum, AtMost, added, scaled, scaled_terms, opposite, opposite_terms, constant}
+use Rattle.log_laws.specs.LogSum.{LogSum, AtMost, added, scaled, opposite, constant}
 use Rattle.log_laws.proofs.Ring.{neg-mul}
 use Rattle.log_laws.proofs.Parts.{IsParts, parts_negated}
-use Rattle.log_laws.proofs.Sums.{at_least_scales, at_least_lowers, negated-sum_of}
+use Rattle.log_laws.proofs.Spellings.{product-negated, opposite-added, scaled-opposite}
+use Rattle.log_laws.proofs.Sums.{at_least_scales, at_least_lowers}
 use Rattle.log_laws.proofs.Opposite.{at_most_is_opposite}
 use Rattle.log_laws.proofs.Terms.{over_den, lowered, at_least_adds_at, constant_at_least}
-
--- the opposite of the opposites
-opposite-append : (ts us : List Term) → opposite_terms (ts ++ us) ≡ opposite_terms ts ++ opposite_terms us
-opposite-append [] us = refl
-opposite-append (t ∷ ts) us = ap (λ (vs : List Term). record { factor = negated t.factor; argument = t.argument } ∷ vs) (opposite-append ts us)
-
-opposite-added : (s t : LogSum) → added (opposite s) (opposite t) ≡ opposite (added s t)
-opposite-added s t =
-    ap₂ (λ (ts : List Term) (r : Fraction). let l : LogSum = record { terms = ts; rest = r } in l)
-    (sym (opposite-append s.terms t.terms)) (negated-sum_of s.rest t.rest)
-
-product-negated : (c f : Fraction) → product_of c (negated f) ≡ negated (product_of c f)
-product-negated c f =
-    ap (λ (z : ℤ). let r : Fraction = record { num = z; den = c.den * f.den } in r) (mul-neg c.num f.num)
-  where
-    mul-neg : (a b : ℤ) → a *ℤ neg_ℤ b ≡ neg_ℤ (a *ℤ b)
-    mul-neg a b = rw (*ℤ_comm a (neg_ℤ b), *ℤ_comm a b) (neg-mul b a)
-
-scaled-opposite_terms : (c : Fraction) (ts : List Term) → scaled_terms c (opposite_terms ts) ≡ opposite_terms (scaled_terms c ts)
-scaled-opposite_terms c [] = refl
-scaled-opposite_terms c (t ∷ ts) =
-    ap₂ (λ (f : Fraction) (us : List Term). record { factor = f; argument = t.argument } ∷ us) (product-negated c t.factor) (scaled-opposite_terms c ts)
-
-scaled-opposite : (c : Fraction) (s : LogSum) → scaled c (opposite s) ≡ opposite (scaled c s)
-scaled-opposite c s =
-    ap₂ (λ (ts : List Term) (r : Fraction). let l : LogSum = record { terms = ts; rest = r } in l)
-    (scaled-opposite_terms c s.terms) (product-negated c s.rest)
 
 -- ---- upper bounds add, scale and may be raised
 pub at_most_scales : (c : Fraction) (s : LogSum) (r : Fraction) → IsFraction c → pos 0 ≤ℤ c.num → AtMost s r → AtMost (scaled c s) (product_of c r)
@@ -64,7 +37,7 @@ heightened s q r {u} {v} {d} {u'} {v'} {d'} p p' l x =
 pub at_most_adds_at : (s t : LogSum) (q r : ℤ) (d : ℕ) → 0 < d → AtMost s (over_den q d) → AtMost t (over_den r d) → AtMost (added s t) (over_den (q +ℤ r) d)
 at_most_adds_at s t q r d h x y =
     (at_most_is_opposite (added s t) (over_den (q +ℤ r) d)).1
-    (rw (← opposite-added s t, turned q r)
+    (rw (opposite-added s t, turned q r)
     (at_least_adds_at (opposite s) (opposite t) (neg_ℤ q) (neg_ℤ r) d h ((at_most_is_opposite s (over_den q d)).0 x) ((at_most_is_opposite t (over_den r d)).0 y)))
   where
     turned : (q r : ℤ) → neg_ℤ (q +ℤ r) ≡ neg_ℤ q +ℤ neg_ℤ r

@@ -37,5 +37,9 @@ IsSame f g = f.num *ℤ pos g.den ≡ g.num *ℤ pos f.den
 abbrev pub quotient_of : Fraction → Fraction → Fraction
 quotient_of f g = record { num = f.num *ℤ pos g.den; den = f.den * positive_part g.num }
 
+-- 1 over f, where f is positive
+abbrev pub inverse : Fraction → Fraction
+inverse f = record { num = pos f.den; den = positive_part f.num }
+
 abbrev pub IsBelow : Fraction → Fraction → Type 0
 IsBelow f g = (f.num *ℤ pos g.den) <ℤ (g.num *ℤ pos f.den)

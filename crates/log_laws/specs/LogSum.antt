@@ -95,6 +95,10 @@ opposite s = record { terms = opposite_terms s.terms; rest = negated s.rest }
 abbrev pub times_log : Fraction → Fraction → LogSum
 times_log f a = record { terms = record { factor = f; argument = a } ∷ []; rest = whole (pos 0) }
 
+-- the logarithm of a
+abbrev pub log_of : Fraction → LogSum
+log_of a = times_log (whole (pos 1)) a
+
 -- a fraction alone
 abbrev pub constant : Fraction → LogSum
 constant f = record { terms = []; rest = f }

@@ -39,9 +39,9 @@ fn flashes_critical_point(rt: HostRuntime) -> Result<(), Fail> {
     let cases: [(u32, u32, Outcome, Option<Energies>); 3] = [
         (
             200_000,
-            2535,
+            54,
             Outcome::Closed,
-            Some((884_873_739_355, 535_260_318, -535_261_251, 884_873_740_288)),
+            Some((884_873_739_355, 524_567_621, -524_568_554, 884_873_740_288)),
         ),
         (1, 1, Outcome::Spent, None),
         (3, 3, Outcome::Spent, None),

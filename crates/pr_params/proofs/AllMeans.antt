@@ -224,6 +224,30 @@ high_attraction n q b a x p m u h box =
     (λ i k. mean_below n m s p (slice_index x.hi) (λ j. (ends_of_pair q.attractions i j).hi) (a i) box.some hs (λ j l. (box.inside j l).below)
     (λ j l. end i j k l) (λ j l. under_end (ends_of_pair q.attractions i j) s (a i j) (end i j k l) (h.attraction i j k l)))
 
+-- both ends are naturals
+low_natural : (n : ℕ) (q : Numbers) (x : Box) → AreUsable n q → attraction_low q x ≡ pos (positive_part (low_by n q x))
+low_natural n q x u =
+    ap (λ (c : ℕ). low_by c q x) u.count
+    ∙ natural_is (low_by n q x) (shared_down_positive n (slice_index x.lo) (λ i. shared_down n (slice_index x.lo) (λ j. (ends_of_pair q.attractions i j).lo))
+    (λ i. positive_part (shared_down n (slice_index x.lo) (λ j. (ends_of_pair q.attractions i j).lo)))
+    (λ i k. natural_is (shared_down n (slice_index x.lo) (λ j. (ends_of_pair q.attractions i j).lo)) (low_row_positive n q x i u k)))
+
+high_natural : (n : ℕ) (q : Numbers) (b : ℕ → Fraction) (a : ℕ → ℕ → Fraction) (x : Box) (p : ℕ → ℕ) (m : ℕ) → AreUsable n q → HoldEach n q b a → AreInBox n x p m
+    → attraction_high q x ≡ pos (positive_part (high_by n q x))
+high_natural n q b a x p m u h box =
+    ap (λ (c : ℕ). high_by c q x) u.count
+    ∙ natural_is (high_by n q x) (shared_up_positive n p (slice_index x.hi) (λ i. shared_up n (slice_index x.hi) (λ j. (ends_of_pair q.attractions i j).hi))
+    (λ i. positive_part (shared_up n (slice_index x.hi) (λ j. (ends_of_pair q.attractions i j).hi))) m box.some (λ i k. (box.inside i k).below)
+    (λ i k. natural_is (shared_up n (slice_index x.hi) (λ j. (ends_of_pair q.attractions i j).hi)) (high_row_positive n q b a x p m i u h box k)))
+
+-- the mean attraction lies between them
+pub attraction_between : (n : ℕ) (q : Numbers) (b : ℕ → Fraction) (a : ℕ → ℕ → Fraction) (x : Box) (p : ℕ → ℕ) (m : ℕ) → AreUsable n q → HoldEach n q b a → AreInBox n x p m
+    → IsBetween (record { lo = attraction_low q x; hi = attraction_high q x }) (2 ^ (49 + q.lift)) (mean_by n m p (λ i. mean_by n m p (a i)))
+attraction_between n q b a x p m u h box =
+    let over = low_attraction n q b a x p m u h box in
+    let under = high_attraction n q b a x p m u h box in
+    record { is_fraction = over.is_fraction; above = rw (low_natural n q x u) over.is; below = rw (high_natural n q b a x p m u h box) under.is }
+
 -- ---- all of them
 pub record AreMeans (q : Numbers) (x : Box) (b a : Fraction) : Type 0 where
   pub covolume : IsBetween (covolume_range q x) (2 ^ (56 + q.lift)) b
@@ -267,18 +291,8 @@ all_means n q b a x p m u h box =
       of_share = mean_over n m s p (least_of q) b box.some (pow_pos (56 + q.lift))
           (λ i k. over_end (ends_at q.covolumes i) s (b i) (let e = u.covolumes i k in omega (arith, ints, e)) (h.covolume i k));
     }) in
-    let low_is : attraction_low q x ≡ pos n0 =
-    ap (λ (c : ℕ). low_by c q x) u.count
-    ∙ natural_is (low_by n q x) (shared_down_positive n (slice_index x.lo) (λ i. shared_down n (slice_index x.lo) (λ j. (ends_of_pair q.attractions i j).lo))
-    (λ i. positive_part (shared_down n (slice_index x.lo) (λ j. (ends_of_pair q.attractions i j).lo)))
-    (λ i k. natural_is (shared_down n (slice_index x.lo) (λ j. (ends_of_pair q.attractions i j).lo)) (low_row_positive n q x i u k))) in
-    let high_is : attraction_high q x ≡ pos n1 =
-    ap (λ (c : ℕ). high_by c q x) u.count
-    ∙ natural_is (high_by n q x) (shared_up_positive n p (slice_index x.hi) (λ i. shared_up n (slice_index x.hi) (λ j. (ends_of_pair q.attractions i j).hi))
-    (λ i. positive_part (shared_up n (slice_index x.hi) (λ j. (ends_of_pair q.attractions i j).hi))) m box.some (λ i k. (box.inside i k).below)
-    (λ i k. natural_is (shared_up n (slice_index x.hi) (λ j. (ends_of_pair q.attractions i j).hi)) (high_row_positive n q b a x p m i u h box k))) in
-    let low_ratio = ratio_low_is q x n0 d1 low_is at_high in
-    let high_ratio = ratio_high_is q x n1 d0 (omega (arith, ints, low, at_low)) high_is at_low in
+    let low_ratio = ratio_low_is q x n0 d1 (low_natural n q x u) at_high in
+    let high_ratio = ratio_high_is q x n1 d0 (omega (arith, ints, low, at_low)) (high_natural n q b a x p m u h box) at_low in
     let positive = rho_positive n q u in
     record {
       covolume = range;

@@ -1,12 +1,14 @@
 -- The one door: what the proofs of crates above may cite.
-pub use Rattle.pr_params.proofs.Accepted.{e_lo_is, e_hi_is, e_exact}
+pub use Rattle.pr_params.proofs.Accepted.{e_lo_is, e_hi_is, e_exact, two_exact, lift_small}
 pub use Rattle.pr_params.proofs.Argument.{positive_between, packing_positive, state_packing, rest_parts}
+pub use Rattle.pr_params.proofs.AtComponents.{log_e_of_numbers}
 pub use Rattle.pr_params.proofs.AttractionTerm.{state_attraction_least, state_attraction_most}
+pub use Rattle.pr_params.proofs.EitherWay.{attraction_turned}
 pub use Rattle.pr_params.proofs.EnergyTerms.{energy_by_terms}
 pub use Rattle.pr_params.proofs.Lambda.{respelled}
-pub use Rattle.pr_params.proofs.MeansHold.{holds_means, ratio_high_positive, sized, ratio_low_positive}
+pub use Rattle.pr_params.proofs.MeansHold.{holds_means, range_least, mean_covolume_held, mean_attraction_held, ratio_high_positive, sized, ratio_low_positive}
 pub use Rattle.pr_params.proofs.PackingLogs.{not_none, log_size, log_some}
 pub use Rattle.pr_params.proofs.ParametersHold.{holds_parameters}
 pub use Rattle.pr_params.proofs.Pull.{times_scaled, times_minus_one}
 pub use Rattle.pr_params.proofs.Right.{enclosures_right}
-pub use Rattle.pr_params.proofs.Sized.{e_ends, scale_split, IsSized, ends_ordered, between_apart, covolume_positive, count_of, each_up_to}
+pub use Rattle.pr_params.proofs.Sized.{e_ends, scale_split, IsSized, ends_ordered, between_apart, covolume_positive, count_of, each_up_to, mean_attraction_is_fraction}

@@ -29,6 +29,7 @@ pub mod AcceptedSizes
 pub mod InOrder
 pub mod HeldAt
 pub mod MeansHold
+pub mod EitherWay
 pub mod GreatestLift
 pub mod Slots
 pub mod Entries

@@ -20,7 +20,7 @@ use Rattle.case_types.specs.Energy.Parameters.{covolume, attraction}
 use Rattle.case_types.specs.Arithmetic.Tables.{ends_at, ends_of_pair}
 use Rattle.pr_params.proofs.Accepted.{two_exact, e_exact, lift_small}
 use Rattle.pr_params.proofs.AcceptedSizes.{usable, covolume_least, covolume_most}
-use Rattle.pr_params.proofs.AllMeans.{AreMeans, all_means, le-least, least_attraction_below, floor_ratio_most}
+use Rattle.pr_params.proofs.AllMeans.{AreMeans, all_means, attraction_between, le-least, least_attraction_below, floor_ratio_most}
 use Rattle.pr_params.proofs.AtComponents.{covolume_at, lift_of_numbers}
 use Rattle.pr_params.proofs.CovolumeRange.{AreInBox, range_holds, range_ordered, least_parts_of}
 use Rattle.pr_params.proofs.InOrder.{greatest-le, attraction_most, attraction_in_order}
@@ -64,6 +64,12 @@ mean_covolume_held c box f e inside some =
       low = (let l = covolume_least c i e h in omega (arith, ints, l));
       held = rw (covolume_at c i h, lift_of_numbers c) (covolume_within c (lift_of c) i h);
     })
+
+pub mean_attraction_held : (c : Case) (x : Instance) (box : Box) (f : State) → fault_of c ≡ None → HoldsParameters c (numbers_of c) x → IsInBox c.n box f → 0 < moles c.n f
+    → IsBetween (record { lo = attraction_low (numbers_of c) box; hi = attraction_high (numbers_of c) box }) (2 ^ (49 + (numbers_of c).lift)) (mean_attraction c x f)
+mean_attraction_held c x box f e k inside some =
+    attraction_between c.n (numbers_of c) (covolume c) (attraction c x) box f.parts (moles c.n f) (usable c e)
+    (record { covolume = k.covolume; attraction = k.attraction }) (in_box c box f inside some)
 
 -- ---- the ratios aren't negative
 pub ratio_low_positive : (c : Case) (x : Instance) (box : Box) (f : State) → fault_of c ≡ None → HoldsParameters c (numbers_of c) x → IsInBox c.n box f → 0 < moles c.n f

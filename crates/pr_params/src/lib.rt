@@ -34,5 +34,6 @@ pub use making::params;
 pub use numbers::Params;
 pub use packings::packing_logs;
 pub use pulls::{attraction_term_high, attraction_term_low};
-pub use ranges::{b_range, g_hi, g_lo};
+pub use ranges::{attraction_range, b_range, g_hi, g_lo};
+pub use readers::{attraction_of, covolume_of};
 pub use terms::energy_of_terms;

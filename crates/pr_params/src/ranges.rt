@@ -6,7 +6,7 @@ ghost use Rattle.log_laws.specs.Interval.{ends_of};
 ghost use Rattle.log_laws.specs.Between.{IsBetween};
 ghost use Rattle.log_laws.specs.Fraction.{IsAtMost};
 ghost use Rattle.case_types.specs.Arithmetic.Numbers.{numbers_of, enclosures_of};
-ghost use Rattle.case_types.specs.Arithmetic.Bounds.{covolume_range, ratio_high, ratio_low};
+ghost use Rattle.case_types.specs.Arithmetic.Bounds.{attraction_high, attraction_low, covolume_range, ratio_high, ratio_low};
 ghost use Rattle.case_types.specs.Energy.Divisions.{State, moles, bits, mean_covolume};
 ghost use Rattle.case_types.specs.Arithmetic.Holding.{IsInBox, attraction_ratio};
 ghost use Rattle.case_types.specs.Energy.Instances.{Instance, IsInstance};
@@ -35,6 +35,20 @@ pub fn b_range(params: &Params, x: &BoxX) -> Iv
         lo: greater(least_covolume(params), low_by_rest(params, x)),
         hi: lesser(greatest_covolume(params), high_by_rest(params, x)),
     }
+}
+
+/// The mean reduced attraction over a box, at least and at most, in `2^-(49+lift)`.
+pub fn attraction_range(params: &Params, x: &BoxX) -> (i128, i128)
+    ensures low { result.0 ≡ attraction_low (numbers_of params.now.case) (box_of x.now) }
+    ensures high { result.1 ≡ attraction_high (numbers_of params.now.case) (box_of x.now) }
+    ensures low_positive { pos 0 ≤ℤ result.0 }
+    ensures low_small { result.0 ≤ℤ pos (2 ^ 66) }
+    ensures high_positive { pos 0 ≤ℤ result.1 }
+    ensures high_small { result.1 ≤ℤ pos (2 ^ 66) }
+{
+    let low = attraction(params, x, Bound::AtLeast);
+    let high = attraction(params, x, Bound::AtMost);
+    (low, high)
 }
 
 /// The mean attraction over the mean co-volume at most, over a box, in 2^-40.

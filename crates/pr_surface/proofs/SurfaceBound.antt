@@ -1,10 +1,11 @@
 -- The surface of Peng and Robinson bounds their energy, so lows of its cells bound divisions, and upper energies bound splits.
-use Rattle.std.proofs.Common.{◌≡◌, ℕ, ◌<◌, ◌≤◌, ◌^◌, pos, ◌<ℤ◌, sym, subst, refl, arith}
+use Rattle.std.proofs.Common.{◌≡◌, ℕ, ◌<◌, ◌≤◌, ◌^◌, pos, ◌<ℤ◌, IsFalse, sym, subst, refl, arith}
 use Rattle.std.proofs.lemmas.Int.{ints}
 use Rattle.log_laws.specs.Fraction.{Fraction, IsSame}
 use Rattle.log_laws.specs.LogSum.{AtMost, ratio}
-use Rattle.case_types.specs.Arithmetic.Bounds.{one}
-use Rattle.case_types.specs.Grid.Cells.{root_region}
+use Rattle.case_types.specs.Arithmetic.Bounds.{one, potential}
+use Rattle.case_types.specs.Energy.Weighing.{IsAbovePlane}
+use Rattle.case_types.specs.Grid.Cells.{root_region, misses, IsWithin}
 use Rattle.case_types.specs.Energy.Divisions.{IsState, bits, division_of, energy_of, energy_of_division}
 use Rattle.case_types.specs.Arithmetic.Holding.{IsInBox}
 use Rattle.case_types.specs.Arithmetic.Numbers.{numbers_of}
@@ -15,7 +16,7 @@ use Rattle.energy_surface.specs.Surfaces.{IsOver}
 use Rattle.energy_surface.proofs.Exports.{lows_certify as surface_lows_certify, uppers_certify as surface_uppers_certify}
 use Rattle.pr_params.proofs.Exports.{count_of}
 use Rattle.helmholtz_density.proofs.Exports.{energy_up_holds}
-use Rattle.tangent_bound.proofs.Exports.{energy_low_holds}
+use Rattle.tangent_bound.proofs.Exports.{energy_low_holds, slope_low_holds}
 use Rattle.pr_surface.specs.Bounding.{NumbersBound, LowsCertify, UppersCertify}
 use Rattle.pr_surface.specs.PengRobinson.{surface_of}
 
@@ -38,7 +39,11 @@ numbers_bound c x accepted inst =
           (not_empty f.packing y is is_state.not_empty) (not_full f.packing y is is_state.not_full)
           (subst (λ (n : ℕ). IsInBox n box f) count within) (subst (λ (n : ℕ). IsState n f) count is_state)
           (subst (λ (g : Fraction). IsSame g (ratio y one)) (sym is) refl);
-      slope = λ lam r low f inside meets is state within. cc;
+      slope = λ lam r low f inside meets is state within.
+          let at = subst (λ (n : ℕ). IsWithin n r f) count within in
+          subst (λ (n : ℕ). IsAbovePlane n (energy_of c x) (potential lam) low f) (sym count)
+          (slope_low_holds c x lam r low f accepted inst inside.low inside.high inside.free_low inside.free_high (subst (λ (n : ℕ). IsFalse (misses n r)) count meets) is
+          (subst (λ (n : ℕ). IsState n f) count state) at);
     }
 
 pub lows_certify : LowsCertify

@@ -24,7 +24,7 @@ struct Trial {
     letters: &'static [u8],
 }
 
-/// Under the tangent plane of equal parts with fewer units than it takes and just as many; under planes that the first middle
+/// Under the tangent plane of equal parts with fewer units than it takes and just as many, where slopes clear some cells; under planes that the first middle
 /// or a later one refutes; under one that a cell of one unit stands against; and under one far below all energies.
 const TRIALS: [Trial; 15] = [
     Trial {
@@ -55,37 +55,37 @@ const TRIALS: [Trial; 15] = [
         n: 2,
         potentials: [-214_637_903_296, -214_637_903_296, 0, 0],
         delta: 549_755_813_888,
-        budget: 50,
+        budget: 20,
         found: Found::Spent {
-            low: -2_810_059_474_096,
+            low: -4_470_470_158_451,
         },
-        units: 50,
-        count: 101,
-        letters: b"yyy1yp1ppyp1pp1y1pypp1pyppy1yppp1ypppy1y1pypp1pyppy1yppp1yppp1y1pp1ppy",
+        units: 20,
+        count: 41,
+        letters: b"yyy1yp1ppyp1pp1y1ps1psy1sp1spy1y1ps1psppp",
     },
     Trial {
         n: 2,
         potentials: [-214_637_903_296, -214_637_903_296, 0, 0],
         delta: 549_755_813_888,
-        budget: 56,
+        budget: 48,
         found: Found::Spent {
             low: -1_489_531_654_496,
         },
-        units: 56,
-        count: 113,
-        letters: b"yyy1yp1ppyp1pp1y1pypp1pyppy1yppp1ypppy1y1pypp1pyppy1yppp1yppp1y1pp1ppy",
+        units: 48,
+        count: 97,
+        letters: b"yyy1yp1ppyp1pp1y1ps1psy1sp1spy1y1ps1psy1sp1sp1y1pp1ppy1pp1ppyy1y1pp1pp",
     },
     Trial {
         n: 2,
         potentials: [-214_637_903_296, -214_637_903_296, 0, 0],
         delta: 549_755_813_888,
-        budget: 57,
+        budget: 49,
         found: Found::AllClear {
             low: -547_075_775_243,
         },
-        units: 57,
-        count: 115,
-        letters: b"yyy1yp1ppyp1pp1y1pypp1pyppy1yppp1ypppy1y1pypp1pyppy1yppp1yppp1y1pp1ppy",
+        units: 49,
+        count: 99,
+        letters: b"yyy1yp1ppyp1pp1y1ps1psy1sp1spy1y1ps1psy1sp1sp1y1pp1ppy1pp1ppyy1y1pp1pp",
     },
     Trial {
         n: 2,
@@ -154,8 +154,8 @@ const TRIALS: [Trial; 15] = [
                 yhi: 68_719_476_736,
             },
         },
-        units: 92,
-        count: 185,
+        units: 90,
+        count: 181,
         letters: b"yyy12y12yp1p2pyppyp1p2yp1p2ppyp1p2yppp2yp12yp1ppyp12pyp1p2pyp1p2pypp2y",
     },
     Trial {
@@ -218,12 +218,12 @@ const TRIALS: [Trial; 15] = [
             -1_314_149_531_072,
         ],
         delta: 1_048_576,
-        budget: 393,
+        budget: 373,
         found: Found::Spent {
             low: -7_257_628_102_877,
         },
-        units: 393,
-        count: 787,
+        units: 373,
+        count: 747,
         letters: b"yyy123y123yp12p3pp23pypp3yppyp1p2p3ppyp123pp3pp23yp1ppyp1pp3yp12pp2ppy",
     },
     Trial {
@@ -235,7 +235,7 @@ const TRIALS: [Trial; 15] = [
             -1_314_149_531_072,
         ],
         delta: 1_048_576,
-        budget: 394,
+        budget: 374,
         found: Found::Refuted {
             column: Column {
                 comp: [262_144, 262_144, 262_144, 262_144],
@@ -244,8 +244,8 @@ const TRIALS: [Trial; 15] = [
                 cost: -1_204_782_919,
             },
         },
-        units: 394,
-        count: 780,
+        units: 374,
+        count: 740,
         letters: b"yyy123y123yp12p3pp23pypp3yppyp1p2p3ppyp123pp3pp23yp1ppyp1pp3yp12pp2ppy",
     },
 ];

@@ -1,6 +1,6 @@
 -- What is said of the visits of a walk over a tree, and of the cells that have no letter yet.
-use Rattle.std.specs.Prelude.{ℕ, ◌||◌, ◌&&◌, ◌==◌, nat_le, nat_lt, Bool, cond, List, [], ◌∷◌, count_by, IsTrue}
-use Rattle.case_types.specs.Grid.Cells.{Region, misses, edge_to_halve, is_unit, Misses, Plain, Ends, Visit}
+use Rattle.std.specs.Prelude.{ℕ, ◌||◌, ◌&&◌, ◌==◌, nat_le, nat_lt, Bool, List, [], ◌∷◌, count_by, IsTrue}
+use Rattle.case_types.specs.Grid.Cells.{Region, edge_to_halve, is_unit, Visit}
 
 -- the edge that is to be halved has one unit of the grid
 abbrev pub HasUnitEdge : ℕ → Region → Type 0
@@ -10,10 +10,6 @@ HasUnitEdge n r = IsTrue (is_unit r (edge_to_halve n r))
 abbrev pub EachVisit : (Visit → Type 0) → List Visit → Type 0
 EachVisit P [] = Unit {0}
 EachVisit P (v ∷ vs) = P v × EachVisit P vs
-
--- a cell that is left when a search stops: `m` where it misses, else `p`
-abbrev pub left_visit : ℕ → Region → Visit
-left_visit n r = record { region = r; step = Ends (cond (misses n r) Misses Plain) }
 
 -- the letters of edges, each of which costs a unit: `1`, `2`, `3` and `y`
 abbrev pub is_edge_letter : ℕ → Bool

@@ -1,7 +1,7 @@
 use Rattle.std.proofs.Common.{◌≡◌, ◌∙◌, ◌-ℤ◌, refl, arith}
 use Rattle.log_laws.proofs.Exports.{back}
 use Rattle.case_types.specs.Grid.Cells.{region_of, box_of_region}
-use Rattle.box_search.specs.Parts.{IsOverBox, IsSharedOver}
+use Rattle.box_search.specs.Parts.{IsOverBox, IsShared, meanings}
 use Rattle.box_search.specs.declared.parts.Shared.TheVariants.{Compositions}
 use Rattle.case_types.proofs.Exports.{low_is}
 use Rattle.box_search.proofs.looks.look.Goals.{After-above, in-Compositions, in_default}
@@ -9,12 +9,14 @@ use Rattle.box_search.proofs.looks.look.Goals as goal
 
 -- whether the cell has them or not, the parts are those of its compositions
 over_is : (g : _) (c : After-above g) →
-    IsOverBox (g.S.Surface.is_mix_low c.args.surface.now) (g.S.Surface.bounds c.args.surface.now).count c.args.plane.now.lam (region_of c.args.half.now.cell) c.match-half.over
+    IsOverBox (meanings (g.S.Surface.bounds c.args.surface.now).count (g.S.Surface.is_mix_low c.args.surface.now) (g.S.Surface.is_mix_up c.args.surface.now) (g.S.Surface.are_logs c.args.surface.now) (g.S.Surface.is_mix_slope c.args.surface.now) (g.S.Surface.is_packing_slope c.args.surface.now))
+    c.args.plane.now.lam (region_of c.args.half.now.cell) c.match-half.over
 over_is g c = elim c.match-half.branch [
   | in-Compositions w ↦
-      let own : IsSharedOver (g.S.Surface.is_mix_low c.args.surface.now) (g.S.Surface.bounds c.args.surface.now).count c.args.plane.now.lam (region_of c.args.half.now.cell)
-      (Compositions w.in-Compositions.over w.in-Compositions.middle) = rw w.in-Compositions.is at c.requires.parts.over in
-      rw w.over-is own
+      let own : IsShared (meanings (g.S.Surface.bounds c.args.surface.now).count (g.S.Surface.is_mix_low c.args.surface.now) (g.S.Surface.is_mix_up c.args.surface.now) (g.S.Surface.are_logs c.args.surface.now) (g.S.Surface.is_mix_slope c.args.surface.now) (g.S.Surface.is_packing_slope c.args.surface.now))
+      c.args.plane.now.lam (region_of c.args.half.now.cell)
+      (Compositions w.in-Compositions.over w.in-Compositions.middle w.in-Compositions.slope) = rw w.in-Compositions.is at c.requires.parts.shared in
+      rw w.over-is own.over
   | in_default w ↦ rw w.over-is w.box_parts-over.ensures
 ]
 

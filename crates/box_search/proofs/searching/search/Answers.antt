@@ -6,17 +6,29 @@ use Rattle.std.proofs.lemmas.List.{append-nil}
 use Rattle.log_laws.proofs.Exports.{back}
 use Rattle.case_types.specs.Grid.Cells.{region_of, root_region, lower_half, upper_half, edge_length}
 use Rattle.case_types.specs.Grid.Columns.{point_of}
+use Rattle.energy_surface.specs.Surfaces.{under}
 use Rattle.energy_surface.specs.declared.found.Found.TheVariants.{AllClear, Refuted}
+use Rattle.energy_surface.proofs.Exports.{grain_of_hand}
+use Rattle.box_search.specs.Leaves.{Clears}
+use Rattle.box_search.specs.Parts.{meanings, HasParts, HaveParts}
 use Rattle.box_search.proofs.Letters.{no_more, one_more, writes}
 use Rattle.box_search.proofs.Deep.{deep_root, deep_rest, deep_room, deep_halves}
 use Rattle.box_search.proofs.Kept.{parts_top, parts_two}
+use Rattle.box_search.proofs.Halving.{Owned, lower_parts, upper_parts}
 use Rattle.box_search.proofs.Root.{begun_rest}
-use Rattle.box_search.proofs.Causes.{middle_refutes, uncleared, cut_off, unit_edge, no_unit_edge, wide_edge, edge_named, edge_inside, unspent}
-use Rattle.box_search.proofs.SoFar.{IsLesser, root_meets, begins, passes, stands, halves, ended, stops_grain, low_clear}
-use Rattle.box_search.proofs.searching.search.Answers.Hand.{Mid, here_low, delta_read, not_clear, root_not_clear, cell_uncleared, far_below, lesser_of, mid_small, stopped_letters, stopped}
-use Rattle.energy_surface.proofs.Exports.{grain_of_hand}
+use Rattle.box_search.proofs.Causes.{middle_refutes, cut_off, unit_edge, no_unit_edge, wide_edge, edge_named, edge_inside, unspent}
+use Rattle.box_search.proofs.SoFar.{IsLesser, root_meets, begins, passes, clears, halves, ended, stops_grain, low_clear}
+use Rattle.box_search.proofs.searching.search.Answers.Hand.{delta_read, root_not_clear, cell_uncleared, cell_left, leaf_below, far_below, stopped_letters, stopped}
+use Rattle.box_search.proofs.searching.search.Goals.{In-Some}
 use Rattle.box_search.proofs.searching.search.Goals as goal
-use Rattle.energy_surface.specs.Surfaces.{under}
+
+-- the cell on top and the others have their parts
+own_parts : (g : _) (c : In-Some g) →
+    HasParts (meanings (g.S.Surface.bounds c.args.surface.now).count (g.S.Surface.is_mix_low c.args.surface.now) (g.S.Surface.is_mix_up c.args.surface.now) (g.S.Surface.are_logs c.args.surface.now) (g.S.Surface.is_mix_slope c.args.surface.now) (g.S.Surface.is_packing_slope c.args.surface.now)) c.args.plane.now.lam c.in-Some.half
+    × HaveParts (meanings (g.S.Surface.bounds c.args.surface.now).count (g.S.Surface.is_mix_low c.args.surface.now) (g.S.Surface.is_mix_up c.args.surface.now) (g.S.Surface.are_logs c.args.surface.now) (g.S.Surface.is_mix_slope c.args.surface.now) (g.S.Surface.is_packing_slope c.args.surface.now)) c.args.plane.now.lam c.pop.new.self.halves
+own_parts g c =
+    parts_top (meanings (g.S.Surface.bounds c.args.surface.now).count (g.S.Surface.is_mix_low c.args.surface.now) (g.S.Surface.is_mix_up c.args.surface.now) (g.S.Surface.are_logs c.args.surface.now) (g.S.Surface.is_mix_slope c.args.surface.now) (g.S.Surface.is_packing_slope c.args.surface.now))
+    c.args.plane.now.lam c.loop-half.stack.halves c.pop.new.self.halves c.in-Some.half c.in-Some.ensures.halves c.loop-half.invariant.parts
 
 -- ---- the loop
 pub loop-half-init : goal.loop-half-init
@@ -41,41 +53,38 @@ loop-half-init g c =
       counted = omega (arith, n);
     }
 
-pub loop-half-preserved-then-here-delta : goal.loop-half-preserved-then-here-delta
-loop-half-preserved-then-here-delta g c =
+pub loop-half-preserved-in_default-made : goal.loop-half-preserved-in_default-made
+loop-half-preserved-in_default-made g c =
     let old = c.loop-half.invariant in
     let e = c.in-Some.ensures.some in
+    let leaf = c.see-seen.result.leaf in
     let n : length c.loop-half.stack.regions ≡ length c.pop.new.self.regions + 1 = ap length e ∙ omega arith in
     let spent = c.loop-half.units.spent - c.args.units.now.spent in
-    let more = one_more c.args.letters.now c.loop-half.letters c.push-then-here-delta.new.self (2 * spent + 1 - length c.loop-half.stack.regions) 112 old.letters c.push-then-here-delta.ensures.items c.push-then-here-delta.ensures.room in
+    let more = one_more c.args.letters.now c.loop-half.letters c.push-in_default-made.new.self (2 * spent + 1 - length c.loop-half.stack.regions) leaf.letter old.letters c.push-in_default-made.ensures.items c.push-in_default-made.ensures.room in
     let count : 2 * spent + 1 - length c.loop-half.stack.regions + 1 ≡ 2 * spent + 1 - length c.pop.new.self.regions = omega (arith, n, old.counted) in
-    let d = neg_ℤ c.args.delta in
-    let either = c.smaller-low.ensures.either d (omega (arith, ints, old.low))
-    (omega (arith, ints, c.if-here-delta.true, c.requires.delta_low, c.requires.delta_high, c.look-looked.ensures.small)) in
+    let delta = back c.args.delta (omega (arith, ints, c.requires.delta_low, c.requires.delta_high)) in
+    let above : neg_ℤ c.args.delta ≤ℤ leaf.low = rw (c.in_default-made.is, delta) at c.see-seen.ensures.above in
+    let clear : Clears (under (g.S.Surface.bounds c.args.surface.now) c.args.plane.now.lam c.args.delta) (region_of c.in-Some.half.cell) leaf = rw (c.in_default-made.is, delta) at c.see-seen.ensures.cleared in
+    let own = back leaf.low (omega (arith, c.see-seen.ensures.small)) in
+    let low = rw delta at old.low in
+    let either = c.smaller-low.ensures.either (neg_ℤ c.args.delta) low (rw own above) in
     let read = back c.smaller-low.result (omega (arith, ints, either, old.high, c.smaller-low.ensures.first, c.requires.delta_low, c.requires.delta_high)) in
-    let lesser : IsLesser (to_z w128 c.loop-half.low-bits) c.look-looked.result.low c.smaller-low.result = (
-      omega (arith, ints, c.smaller-low.ensures.first),
-      omega (arith, ints, c.smaller-low.ensures.second, c.look-looked.ensures.small),
-      λ z h k. c.smaller-low.ensures.either z (omega (arith, ints, h)) (omega (arith, ints, k, c.look-looked.ensures.small)),
-    ) in
-    let clear : neg_ℤ (to_z w128 (of_z w128 c.args.delta)) ≤ℤ c.look-looked.result.low =
-    omega (arith, ints, c.if-here-delta.true, c.requires.delta_low, c.requires.delta_high, c.look-looked.ensures.small) in
+    let lesser : IsLesser (to_z w128 c.loop-half.low-bits) leaf.low c.smaller-low.result =
+    (c.smaller-low.ensures.first, rw own at c.smaller-low.ensures.second, λ z h k. c.smaller-low.ensures.either z h (rw own k)) in
     record {
-      parts = (parts_top (g.S.Surface.is_mix_low c.args.surface.now) (g.S.Surface.is_mix_up c.args.surface.now) (g.S.Surface.are_logs c.args.surface.now) (g.S.Surface.bounds c.args.surface.now).count c.args.plane.now.lam c.loop-half.stack.halves c.pop.new.self.halves c.in-Some.half
-          c.in-Some.ensures.halves c.loop-half.invariant.parts).1;
+      parts = (own_parts g (goal.at.loop-half-preserved-in_default-made g c).In-Some).1;
       deep = deep_rest (region_of c.in-Some.half.cell) c.pop.new.self.regions (rw e at old.deep);
       begun = begun_rest (under (g.S.Surface.bounds c.args.surface.now) c.args.plane.now.lam (to_z w128 (of_z w128 c.args.delta))) (region_of c.in-Some.half.cell) c.loop-half.stack.regions c.pop.new.self.regions e old.begun;
-      low = omega (arith, ints, either);
-      high = omega (arith, ints, old.high, c.smaller-low.ensures.first);
+      low = rw (delta, read) either;
+      high = rw read (omega (arith, ints, old.high, c.smaller-low.ensures.first));
       budget = old.budget;
       spent = old.spent;
       letters = rw count at more;
       so_far =
-          rw read
-          (stands (under (g.S.Surface.bounds c.args.surface.now) c.args.plane.now.lam _) (to_z w128 c.loop-half.low-bits) c.smaller-low.result c.args.letters.now.items c.loop-half.letters.items
-          c.push-then-here-delta.new.self.items spent (region_of c.in-Some.half.cell) c.loop-half.stack.regions c.pop.new.self.regions e c.push-then-here-delta.ensures.items
-          (rw (← c.count-n.ensures.value, ← c.misses.ensures) c.if-misses.false, rw c.look-looked.ensures.value at clear)
-          (rw c.look-looked.ensures.value at lesser) (rw (← c.look-looked.ensures.value) (omega (arith, ints, c.look-looked.ensures.small))) old.so_far);
+          rw (read, delta)
+          (clears (under (g.S.Surface.bounds c.args.surface.now) c.args.plane.now.lam c.args.delta) (to_z w128 c.loop-half.low-bits) c.smaller-low.result c.args.letters.now.items c.loop-half.letters.items
+          c.push-in_default-made.new.self.items spent (region_of c.in-Some.half.cell) c.loop-half.stack.regions c.pop.new.self.regions leaf e c.push-in_default-made.ensures.items clear
+          lesser (omega (arith, ints, c.see-seen.ensures.small)) (rw delta at old.so_far));
       counted = omega (arith, n, old.counted);
     }
 
@@ -88,8 +97,7 @@ loop-half-preserved-then-misses g c =
     let more = one_more c.args.letters.now c.loop-half.letters c.push.new.self (2 * spent + 1 - length c.loop-half.stack.regions) 109 old.letters c.push.ensures.items c.push.ensures.room in
     let count : 2 * spent + 1 - length c.loop-half.stack.regions + 1 ≡ 2 * spent + 1 - length c.pop.new.self.regions = omega (arith, n, old.counted) in
     record {
-      parts = (parts_top (g.S.Surface.is_mix_low c.args.surface.now) (g.S.Surface.is_mix_up c.args.surface.now) (g.S.Surface.are_logs c.args.surface.now) (g.S.Surface.bounds c.args.surface.now).count c.args.plane.now.lam c.loop-half.stack.halves c.pop.new.self.halves c.in-Some.half
-          c.in-Some.ensures.halves c.loop-half.invariant.parts).1;
+      parts = (own_parts g (goal.at.loop-half-preserved-then-misses g c).In-Some).1;
       deep = deep_rest (region_of c.in-Some.half.cell) c.pop.new.self.regions (rw e at old.deep);
       begun = begun_rest (under (g.S.Surface.bounds c.args.surface.now) c.args.plane.now.lam (to_z w128 (of_z w128 c.args.delta))) (region_of c.in-Some.half.cell) c.loop-half.stack.regions c.pop.new.self.regions e old.begun;
       low = old.low;
@@ -133,19 +141,29 @@ loop-half-preserved g c =
     c.push-in-Some.ensures.items c.push-in-Some.ensures.room in
     let count : 2 * spent + 1 - length c.loop-half.stack.regions + 1 ≡ 2 * (c.spend-in-Some.new.self.spent - c.args.units.now.spent) + 1 - length c.push_halves.new.self.regions =
     omega (arith, n, m, next, old.spent, old.counted) in
-    let delta = delta_read g here.Else-here-delta in
+    let delta = delta_read g here.In-Some-made in
     let r = region_of c.in-Some.half.cell in
     let edge = c.edge_to_halve-edge.result in
     let inside = edge_inside c.count-n.result edge c.count-n.ensures.four c.edge_to_halve-edge.ensures.edge in
     record {
       parts =
           let lam = c.args.plane.now.lam in
-          let own = parts_top (g.S.Surface.is_mix_low c.args.surface.now) (g.S.Surface.is_mix_up c.args.surface.now) (g.S.Surface.are_logs c.args.surface.now) (g.S.Surface.bounds c.args.surface.now).count c.args.plane.now.lam c.loop-half.stack.halves c.pop.new.self.halves c.in-Some.half c.in-Some.ensures.halves old.parts in
-          parts_two (g.S.Surface.is_mix_low c.args.surface.now) (g.S.Surface.is_mix_up c.args.surface.now) (g.S.Surface.are_logs c.args.surface.now) (g.S.Surface.bounds c.args.surface.now).count c.args.plane.now.lam c.push_halves.new.self.halves c.pop.new.self.halves c.halves.result.0 c.halves.result.1 c.push_halves.ensures.halves
-          (c.halves.ensures.lower_parts lam own.0 c.look-looked.ensures.over) (c.halves.ensures.upper_parts lam own.0 c.look-looked.ensures.over) own.1;
+          let m = (meanings (g.S.Surface.bounds c.args.surface.now).count (g.S.Surface.is_mix_low c.args.surface.now) (g.S.Surface.is_mix_up c.args.surface.now) (g.S.Surface.are_logs c.args.surface.now) (g.S.Surface.is_mix_slope c.args.surface.now) (g.S.Surface.is_packing_slope c.args.surface.now)) in
+          let own = own_parts g here.In-Some in
+          let owned : Owned m lam c.in-Some.half c.in-Some-made.made c.middle_of-middle.result = record {
+            parts = own.0;
+            made_own = rw c.in-Some-made.is at c.see-seen.ensures.made;
+            at = c.middle_of-middle.ensures.at;
+            point = c.middle_of-middle.ensures.parts;
+          } in
+          let half = c.halves.ensures in
+          parts_two m lam c.push_halves.new.self.halves c.pop.new.self.halves c.halves.result.0 c.halves.result.1 c.push_halves.ensures.halves
+          (lower_parts m lam edge c.in-Some.half c.halves.result.0 c.in-Some-made.made c.middle_of-middle.result owned half.lower half.lower_from half.lower_to half.lower_shared)
+          (upper_parts m lam edge c.in-Some.half c.halves.result.1 c.in-Some-made.made c.middle_of-middle.result owned half.upper half.upper_from half.upper_to half.upper_shared)
+          own.1;
       deep = rw regions
           (deep_halves r (lower_half edge r) (upper_half edge r) c.pop.new.self.regions lower_left upper_left (rw e at old.deep));
-      begun = rw delta (inr (inr (root_not_clear g here.Else-here-delta)));
+      begun = rw delta (inr (inr (root_not_clear g here.In-Some-made)));
       low = old.low;
       high = old.high;
       budget = c.spend-in-Some.ensures.budget ∙ old.budget;
@@ -156,7 +174,7 @@ loop-half-preserved g c =
           (halves (under (g.S.Surface.bounds c.args.surface.now) c.args.plane.now.lam c.args.delta) (to_z w128 c.loop-half.low-bits) c.args.letters.now.items c.loop-half.letters.items
           c.push-in-Some.new.self.items spent (c.spend-in-Some.new.self.spent - c.args.units.now.spent) edge r
           c.loop-half.stack.regions c.pop.new.self.regions c.push_halves.new.self.regions inside e regions (c.push-in-Some.ensures.items ∙ ap (λ x. c.loop-half.letters.items ++ x ∷ []) c.edge_letter.ensures) (
-            record { uncleared = cell_uncleared g here.Else-here-delta; not_refuting = rw (delta, c.middle_of-middle.ensures.at) at c.in_default-refuting.ensures.none },
+            record { uncleared = cell_uncleared g here.In-Some-made; not_refuting = rw (delta, c.middle_of-middle.ensures.at) at c.in_default-refuting.ensures.none },
             no_unit_edge c.count-n.result (g.S.Surface.bounds c.args.surface.now).count (region_of c.in-Some.half.cell) c.edge_to_halve-edge.result c.is_unit.result
                 (sym c.count-n.ensures.value) c.edge_to_halve-edge.ensures.named c.is_unit.ensures.value c.if-is_unit.false,
             edge_named c.count-n.result (g.S.Surface.bounds c.args.surface.now).count r edge (sym c.count-n.ensures.value) c.edge_to_halve-edge.ensures.named,
@@ -165,74 +183,58 @@ loop-half-preserved g c =
       counted = omega (arith, n, m, next, old.spent, old.counted);
     }
 
-pub close-low-requires-clause-small : goal.close-low-requires-clause-small
-close-low-requires-clause-small g c =
-    let here = (goal.at.close-low-requires-clause-small g c).Else-here-delta in
-    let size = mid_small g here c.smaller.result (c.smaller.ensures.first, c.smaller.ensures.second, c.smaller.ensures.either) in
-    rw (back c.smaller.result (omega (arith, size))) size
-
-pub close-low-requires-then-is_unit-clause-small : goal.close-low-requires-then-is_unit-clause-small
-close-low-requires-then-is_unit-clause-small g c =
-    let here = (goal.at.close-low-requires-then-is_unit-clause-small g c).Else-here-delta in
-    let size = mid_small g here c.smaller-then-is_unit.result (c.smaller-then-is_unit.ensures.first, c.smaller-then-is_unit.ensures.second, c.smaller-then-is_unit.ensures.either) in
-    rw (back c.smaller-then-is_unit.result (omega (arith, size))) size
-
-pub close-low-requires-then-is_spent-2-clause-small : goal.close-low-requires-then-is_spent-2-clause-small
-close-low-requires-then-is_spent-2-clause-small g c =
-    let here = (goal.at.close-low-requires-then-is_spent-2-clause-small g c).Else-here-delta in
-    let size = mid_small g here c.smaller-then-is_spent-2.result (c.smaller-then-is_spent-2.ensures.first, c.smaller-then-is_spent-2.ensures.second, c.smaller-then-is_spent-2.ensures.either) in
-    rw (back c.smaller-then-is_spent-2.result (omega (arith, size))) size
-
 -- ---- the ends
 pub returns-then-is_spent-clause-root : goal.returns-then-is_spent-clause-root
-returns-then-is_spent-clause-root g c = root_not_clear g (goal.at.returns-then-is_spent-clause-root g c).Else-here-delta
+returns-then-is_spent-clause-root g c = root_not_clear g (goal.at.returns-then-is_spent-clause-root g c).In-Some-made
 
 pub returns-in-Some-refuting-clause-root : goal.returns-in-Some-refuting-clause-root
-returns-in-Some-refuting-clause-root g c = root_not_clear g (goal.at.returns-in-Some-refuting-clause-root g c).Else-here-delta
+returns-in-Some-refuting-clause-root g c = root_not_clear g (goal.at.returns-in-Some-refuting-clause-root g c).In-Some-made
 
 pub returns-then-is_unit-clause-root : goal.returns-then-is_unit-clause-root
-returns-then-is_unit-clause-root g c = root_not_clear g (goal.at.returns-then-is_unit-clause-root g c).Else-here-delta
+returns-then-is_unit-clause-root g c = root_not_clear g (goal.at.returns-then-is_unit-clause-root g c).In-Some-made
 
 pub returns-then-is_spent-2-clause-root : goal.returns-then-is_spent-2-clause-root
-returns-then-is_spent-2-clause-root g c = root_not_clear g (goal.at.returns-then-is_spent-2-clause-root g c).Else-here-delta
+returns-then-is_spent-2-clause-root g c = root_not_clear g (goal.at.returns-then-is_spent-2-clause-root g c).In-Some-made
 
 pub returns-then-is_spent-clause-found : goal.returns-then-is_spent-clause-found
 returns-then-is_spent-clause-found g c =
-    let here = (goal.at.returns-then-is_spent-clause-found g c).Else-here-delta in
-    (omega (arith, ints, here_low g here, c.smaller.ensures.second, c.close-low.ensures.low, c.requires.delta_low, c.requires.delta_high), c.is_spent.ensures.0 c.if-is_spent.true)
+    let here = (goal.at.returns-then-is_spent-clause-found g c).In-Some-made in
+    let below = leaf_below g here in
+    let low = back c.close-low.result (omega (arith, c.close-low.ensures.small)) in
+    (rw low (omega (arith, ints, below, c.close-low.ensures.hand)), c.is_spent.ensures.0 c.if-is_spent.true)
 
 pub returns-then-is_spent-2-clause-found : goal.returns-then-is_spent-2-clause-found
 returns-then-is_spent-2-clause-found g c =
-    let here = (goal.at.returns-then-is_spent-2-clause-found g c).Else-here-delta in (
-      omega (arith, ints, here_low g here, c.smaller-then-is_spent-2.ensures.second, c.close-low-then-is_spent-2.ensures.low, c.requires.delta_low, c.requires.delta_high),
-      c.is_spent-in-Some.ensures.0 c.if-is_spent-2.true,
-    )
+    let here = (goal.at.returns-then-is_spent-2-clause-found g c).In-Some-made in
+    let below = leaf_below g here in
+    let low = back c.close-low-then-is_spent-2.result (omega (arith, c.close-low-then-is_spent-2.ensures.small)) in
+    (rw low (omega (arith, ints, below, c.close-low-then-is_spent-2.ensures.hand)), c.is_spent-in-Some.ensures.0 c.if-is_spent-2.true)
 
 pub returns-then-is_spent-clause-letters : goal.returns-then-is_spent-clause-letters
-returns-then-is_spent-clause-letters g c = stopped_letters g (goal.at.returns-then-is_spent-clause-letters g c).Else-here-delta c.close-low.new.letters c.close-low.ensures.letters
+returns-then-is_spent-clause-letters g c = stopped_letters g (goal.at.returns-then-is_spent-clause-letters g c).In-Some-made c.close-low.new.letters c.close-low.ensures.letters
 
 pub returns-then-is_unit-clause-letters : goal.returns-then-is_unit-clause-letters
-returns-then-is_unit-clause-letters g c = stopped_letters g (goal.at.returns-then-is_unit-clause-letters g c).Else-here-delta c.close-low-then-is_unit.new.letters c.close-low-then-is_unit.ensures.letters
+returns-then-is_unit-clause-letters g c = stopped_letters g (goal.at.returns-then-is_unit-clause-letters g c).In-Some-made c.close-low-then-is_unit.new.letters c.close-low-then-is_unit.ensures.letters
 
 pub returns-then-is_spent-2-clause-letters : goal.returns-then-is_spent-2-clause-letters
-returns-then-is_spent-2-clause-letters g c = stopped_letters g (goal.at.returns-then-is_spent-2-clause-letters g c).Else-here-delta c.close-low-then-is_spent-2.new.letters c.close-low-then-is_spent-2.ensures.letters
+returns-then-is_spent-2-clause-letters g c = stopped_letters g (goal.at.returns-then-is_spent-2-clause-letters g c).In-Some-made c.close-low-then-is_spent-2.new.letters c.close-low-then-is_spent-2.ensures.letters
 
 -- ---- what is written
 
 pub returns-then-is_spent-clause-searched : goal.returns-then-is_spent-clause-searched
 returns-then-is_spent-clause-searched g c =
-    let here = (goal.at.returns-then-is_spent-clause-searched g c).Else-here-delta in
+    let here = (goal.at.returns-then-is_spent-clause-searched g c).In-Some-made in
     let refutes = rw (delta_read g here) at c.in-Some-refuting.ensures.refutes in
     rw (back c.close-low.result (omega (arith, c.close-low.ensures.small)))
-    (stopped g here c.smaller.result c.close-low.result c.close-low.new.letters.items (c.smaller.ensures.first, c.smaller.ensures.second, c.smaller.ensures.either)
+    (stopped g here c.close-low.result c.close-low.new.letters.items
     (record {
       uncleared = cell_uncleared g here;
       wants = inl (middle_refutes (under (g.S.Surface.bounds c.args.surface.now) c.args.plane.now.lam c.args.delta) (region_of c.in-Some.half.cell) (point_of c.in-Some-refuting.column) (rw c.middle_of-middle.ensures.at at c.in-Some-refuting.ensures.middle) refutes);
-    }) c.close-low.ensures.closes)
+    }) c.close-low.ensures.hand (c.close-low.ensures.closes (region_of c.in-Some.half.cell) (cell_left g here)))
 
 pub returns-in-Some-refuting-clause-searched : goal.returns-in-Some-refuting-clause-searched
 returns-in-Some-refuting-clause-searched g c =
-    let here = (goal.at.returns-in-Some-refuting-clause-searched g c).Else-here-delta in
+    let here = (goal.at.returns-in-Some-refuting-clause-searched g c).In-Some-made in
     let delta = delta_read g here in
     let refutes = rw delta at c.in-Some-refuting.ensures.refutes in
     ended (under (g.S.Surface.bounds c.args.surface.now) c.args.plane.now.lam c.args.delta) (to_z w128 c.loop-half.low-bits) c.args.letters.now.items c.loop-half.letters.items c.loop-half.letters.items
@@ -245,12 +247,10 @@ returns-in-Some-refuting-clause-searched g c =
 
 pub returns-then-is_unit-clause-searched : goal.returns-then-is_unit-clause-searched
 returns-then-is_unit-clause-searched g c =
-    let here = (goal.at.returns-then-is_unit-clause-searched g c).Else-here-delta in
+    let here = (goal.at.returns-then-is_unit-clause-searched g c).In-Some-made in
     let delta = delta_read g here in
-    let mid : Mid g here c.smaller-then-is_unit.result = (c.smaller-then-is_unit.ensures.first, c.smaller-then-is_unit.ensures.second, c.smaller-then-is_unit.ensures.either) in
-    let closes = rw (back c.smaller-then-is_unit.result (omega (arith, mid_small g here c.smaller-then-is_unit.result mid))) at c.close-low-then-is_unit.ensures.closes in
     rw (back c.close-low-then-is_unit.result (omega (arith, c.close-low-then-is_unit.ensures.small)))
-    (stops_grain (under (g.S.Surface.bounds c.args.surface.now) c.args.plane.now.lam c.args.delta) (to_z w128 c.loop-half.low-bits) c.smaller-then-is_unit.result c.close-low-then-is_unit.result c.args.letters.now.items c.loop-half.letters.items
+    (stops_grain (under (g.S.Surface.bounds c.args.surface.now) c.args.plane.now.lam c.args.delta) (to_z w128 c.loop-half.low-bits) c.close-low-then-is_unit.result c.args.letters.now.items c.loop-half.letters.items
     c.close-low-then-is_unit.new.letters.items (c.loop-half.units.spent - c.args.units.now.spent) c.in-Some.half.cell c.loop-half.stack.regions c.pop.new.self.regions
     c.in-Some.ensures.some
     (record {
@@ -259,26 +259,29 @@ returns-then-is_unit-clause-searched g c =
       one_unit = unit_edge c.count-n.result (g.S.Surface.bounds c.args.surface.now).count (region_of c.in-Some.half.cell) c.edge_to_halve-edge.result c.is_unit.result
           (sym c.count-n.ensures.value) c.edge_to_halve-edge.ensures.named c.is_unit.ensures.value c.if-is_unit.true;
     })
-    closes (lesser_of g here _ mid) (far_below g here) (rw delta at c.loop-half.invariant.so_far))
+    (c.close-low-then-is_unit.ensures.closes (region_of c.in-Some.half.cell) (cell_left g here)) (far_below g here c.close-low-then-is_unit.result c.close-low-then-is_unit.ensures.hand)
+    (rw delta at c.loop-half.invariant.so_far))
 
 pub returns-then-is_unit-clause-found : goal.returns-then-is_unit-clause-found
 returns-then-is_unit-clause-found g c =
-    let here = (goal.at.returns-then-is_unit-clause-found g c).Else-here-delta in
+    let here = (goal.at.returns-then-is_unit-clause-found g c).In-Some-made in
+    let below = leaf_below g here in
+    let low = back c.close-low-then-is_unit.result (omega (arith, c.close-low-then-is_unit.ensures.small)) in
     let searched = (returns-then-is_unit-clause-searched g c).searched in (
-      omega (arith, ints, here_low g here, c.smaller-then-is_unit.ensures.second, c.close-low-then-is_unit.ensures.low, c.requires.delta_low, c.requires.delta_high),
+      rw low (omega (arith, ints, below, c.close-low-then-is_unit.ensures.hand)),
       grain_of_hand (under (g.S.Surface.bounds c.args.surface.now) c.args.plane.now.lam c.args.delta) (region_of c.in-Some.half.cell) searched.left searched.ends,
     )
 
 pub returns-then-is_spent-2-clause-searched : goal.returns-then-is_spent-2-clause-searched
 returns-then-is_spent-2-clause-searched g c =
-    let here = (goal.at.returns-then-is_spent-2-clause-searched g c).Else-here-delta in
+    let here = (goal.at.returns-then-is_spent-2-clause-searched g c).In-Some-made in
     rw (back c.close-low-then-is_spent-2.result (omega (arith, c.close-low-then-is_spent-2.ensures.small)))
-    (stopped g here c.smaller-then-is_spent-2.result c.close-low-then-is_spent-2.result c.close-low-then-is_spent-2.new.letters.items (c.smaller-then-is_spent-2.ensures.first, c.smaller-then-is_spent-2.ensures.second, c.smaller-then-is_spent-2.ensures.either)
+    (stopped g here c.close-low-then-is_spent-2.result c.close-low-then-is_spent-2.new.letters.items
     (record {
       uncleared = cell_uncleared g here;
       wants = inr (no_unit_edge c.count-n.result (g.S.Surface.bounds c.args.surface.now).count (region_of c.in-Some.half.cell) c.edge_to_halve-edge.result c.is_unit.result
           (sym c.count-n.ensures.value) c.edge_to_halve-edge.ensures.named c.is_unit.ensures.value c.if-is_unit.false);
-    }) c.close-low-then-is_spent-2.ensures.closes)
+    }) c.close-low-then-is_spent-2.ensures.hand (c.close-low-then-is_spent-2.ensures.closes (region_of c.in-Some.half.cell) (cell_left g here)))
 
 pub returns-clause-searched : goal.returns-clause-searched
 returns-clause-searched g c =

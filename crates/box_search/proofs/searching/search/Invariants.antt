@@ -1,6 +1,6 @@
 use Rattle.std.proofs.Common.{◌≡◌, ◌+◌, ◌-◌, ◌*◌, ◌≤◌, ◌^◌, pos, neg_ℤ, ◌≤ℤ◌, length}
 use Rattle.box_search.specs.Written.{WritesSome}
-use Rattle.box_search.specs.Parts.{HaveParts}
+use Rattle.box_search.specs.Parts.{meanings, HaveParts}
 use Rattle.box_search.proofs.Deep.{IsDeep}
 use Rattle.box_search.proofs.Root.{IsBegun}
 use Rattle.box_search.proofs.SoFar.{SoFar}
@@ -9,7 +9,7 @@ use Rattle.energy_surface.specs.Surfaces.{under}
 
 abbrev pub invariant-loop-half : goal.invariant-loop-half
 invariant-loop-half g l = record {
-  parts : HaveParts (g.S.Surface.is_mix_low l.surface) (g.S.Surface.is_mix_up l.surface) (g.S.Surface.are_logs l.surface) (g.S.Surface.bounds l.surface).count l.plane.lam l.stack.halves;
+  parts : HaveParts (meanings (g.S.Surface.bounds l.surface).count (g.S.Surface.is_mix_low l.surface) (g.S.Surface.is_mix_up l.surface) (g.S.Surface.are_logs l.surface) (g.S.Surface.is_mix_slope l.surface) (g.S.Surface.is_packing_slope l.surface)) l.plane.lam l.stack.halves;
   deep : IsDeep l.stack.regions;
   begun : IsBegun (under (g.S.Surface.bounds l.surface) l.plane.lam l.fn.delta) l.stack.regions;
   low : neg_ℤ l.fn.delta ≤ℤ l.low;

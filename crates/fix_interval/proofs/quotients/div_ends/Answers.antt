@@ -1,38 +1,28 @@
-use Rattle.std.proofs.Common.{arith, ◌≤◌, ◌^◌, pos, ◌*ℤ◌, unsigned_abs}
-use Rattle.std.proofs.lemmas.Int.{ints, clamps}
-use Rattle.log_laws.proofs.Exports.{back}
-use Rattle.log_laws.proofs.Exports.{mul-le_ℤ}
+use Rattle.std.proofs.Common.{arith, ◌∙◌, ◌^◌, ap, pos, neg_ℤ, ◌*ℤ◌, unsigned_abs, sym}
+use Rattle.std.proofs.lemmas.Int.{ints}
+use Rattle.log_laws.proofs.Exports.{back, mul-le_ℤ, neg-mul, opposite_read}
 use Rattle.log_laws.specs.Whole.{floor_div, ceil_div}
 use Rattle.log_laws.specs.Interval.{ends_of}
 use Rattle.fix_interval.proofs.Between.{IsBetween-quotient_of}
 use Rattle.fix_interval.proofs.Cancel.{floor_over-le-ceil_over}
-use Rattle.fix_interval.proofs.Wrapped.{scaled_is, least_quotient_is, greatest_quotient_is, lesser-le-greater}
+use Rattle.fix_interval.proofs.Division.{max-neg}
+use Rattle.fix_interval.proofs.Wrapped.{lesser-le-greater, opposite_of}
 use Rattle.fix_interval.proofs.quotients.div_ends.Goals as goal
-
-pub ceil_quotient-requires-2-clause-d : goal.ceil_quotient-requires-2-clause-d
-ceil_quotient-requires-2-clause-d c = omega (arith, ints)
 
 pub returns-clause-lo : goal.returns-clause-lo
 returns-clause-lo c =
-    let a = c.args.a in
-    let b = c.args.b in
-    let found = least_quotient_is c.scaled-low.result b.lo b.hi c.floor_quotient.result c.floor_quotient-2.result c.min-lo.result
-    c.scaled-low.ensures.small b.lo_small b.hi_small c.floor_quotient.ensures.small c.floor_quotient-2.ensures.small
-    c.floor_quotient.ensures.value c.floor_quotient-2.ensures.value c.min-lo.ensures.value in
-    let small : unsigned_abs c.min-lo.result ≤ 2 ^ 123 = omega (arith, ints, clamps) in
-    rw (back c.min-lo.result (omega (arith, small)))
-    (rw (scaled_is a.lo c.scaled-low.result (2 ^ c.args.shift) a.lo_small c.scaled-low.ensures.value) at found)
+    rw (back c.least.result (omega (arith, c.least.ensures.small)))
+    (rw (back c.args.a.lo (omega (arith, c.args.a.lo_small))) at c.least.ensures.value)
 
 pub returns-clause-hi : goal.returns-clause-hi
 returns-clause-hi c =
     let a = c.args.a in
     let b = c.args.b in
-    let found = greatest_quotient_is c.scaled-high.result b.lo b.hi c.ceil_quotient.result c.ceil_quotient-2.result c.max-hi.result
-    c.scaled-high.ensures.small b.lo_small b.hi_small c.ceil_quotient.ensures.small c.ceil_quotient-2.ensures.small
-    c.ceil_quotient.ensures.value c.ceil_quotient-2.ensures.value c.max-hi.ensures.value in
-    let small : unsigned_abs c.max-hi.result ≤ 2 ^ 123 = omega (arith, ints, clamps) in
-    rw (back c.max-hi.result (omega (arith, small)))
-    (rw (scaled_is a.hi c.scaled-high.result (2 ^ c.args.shift) a.hi_small c.scaled-high.ensures.value) at found)
+    let k = 2 ^ c.args.shift in
+    let v = rw (opposite_read a.hi (omega (arith, a.hi_small)), neg-mul a.hi (pos k)) at c.least-2.ensures.value in
+    opposite_of c.least-2.result c.least-2.ensures.small
+    ∙ ap neg_ℤ v
+    ∙ sym (max-neg (floor_div (neg_ℤ (a.hi *ℤ pos k)) b.lo) (floor_div (neg_ℤ (a.hi *ℤ pos k)) b.hi))
 
 pub returns-clause-ordered : goal.returns-clause-ordered
 returns-clause-ordered c =

@@ -1,0 +1,5 @@
+pub mod Arithmetic
+pub mod Forms
+pub mod Meaning
+pub mod Ranges
+pub mod Laws
