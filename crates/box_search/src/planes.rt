@@ -19,7 +19,7 @@ pub fn refutes(n: u8, plane: &Plane, delta: i128, column: &Column) -> bool
 }
 
 /// The plane of `n` components at a composition in 2^-20, rounded down to 2^-40 bit.
-fn plane_on(n: u8, plane: &Plane, comp: &[u32; SLOTS]) -> i128
+pub fn plane_on(n: u8, plane: &Plane, comp: &[u32; SLOTS]) -> i128
     requires { n ≤ 4 }
     ensures value { result ≡ plane_at n plane.now.lam comp.now (2 ^ 20) }
     ensures small { unsigned_abs result ≤ 2 ^ 114 }

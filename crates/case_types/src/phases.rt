@@ -14,13 +14,16 @@ pub struct Phase {
     pub packing: u64,
 }
 
+/// One part of the first component, at half the densest packing.
+const ONE_PART: Phase = Phase {
+    parts: [1, 0, 0, 0],
+    packing: 1 << 39,
+};
+
 impl Default for Phase {
     /// One part of the first component, at half the densest packing.
     fn default() -> Phase {
-        Phase {
-            parts: [1, 0, 0, 0],
-            packing: 1 << 39,
-        }
+        ONE_PART
     }
 }
 
@@ -34,4 +37,13 @@ pub struct Split {
     pub ghost some: { 1 ≤ length phases.items },
     pub ghost parted: { IsTrue (list_all (λ f. are_parts f.parts) phases.items) },
     pub ghost packed: { IsTrue (list_all (λ f. is_packing f.packing) phases.items) },
+}
+
+impl Default for Split {
+    /// One part, in one phase.
+    fn default() -> Split {
+        let mut phases = ArrayVec::new();
+        phases.push(ONE_PART);
+        Split { sum: 1, phases }
+    }
 }

@@ -16,6 +16,18 @@ pub struct Column {
     pub cost: i64,
 }
 
+impl Default for Column {
+    /// The first component alone, at half the densest packing, without energy.
+    fn default() -> Column {
+        Column {
+            comp: [1 << 20, 0, 0, 0],
+            packing: 1 << 39,
+            up: 0,
+            cost: 0,
+        }
+    }
+}
+
 /// How the search under a plane ended.
 #[derive(Clone, Copy, Debug, PartialEq, Eq)]
 pub enum RoundEnd {

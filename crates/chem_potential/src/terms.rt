@@ -3,7 +3,7 @@
 ghost use Rattle.std.specs.Prelude.{◌≤◌, ◌<◌, ◌^◌, unsigned_abs};
 
 use crate::kept::kept;
-use log_enclose::log2_lo;
+use log_enclose::{Logarithms, log2_lo};
 use pr_params::lambda_ends;
 
 /// 1 in 2^-40.
@@ -102,7 +102,7 @@ pub fn attraction_log(y: u64) -> i128
     requires { y ≤ 2 ^ 40 }
     ensures { unsigned_abs result ≤ 2 ^ 48 }
 {
-    over_two_roots(lambda_ends(y).lo)
+    over_two_roots(lambda_ends(Logarithms::Anew, y).lo)
 }
 
 /// A logarithm over twice the root of 2.

@@ -6,7 +6,7 @@ use Rattle.std.proofs.Math.Nat.{mul-le-mul_left, mul-le-mul_right, mul_assoc, di
 use Rattle.std.proofs.lemmas.Nat.{le-div}
 use Rattle.std.proofs.Math.IntN.{zero-*ℤ}
 use Rattle.log_laws.specs.Whole.{floor_over, ceil_over, floor_div}
-use Rattle.log_laws.proofs.Exports.{mul-le_ℤ, neg-mul, ≤ℤ_trans, scale_scale, scale_turned}
+use Rattle.log_laws.proofs.Exports.{mul-le_ℤ, neg-mul, ≤ℤ_trans, scale_scale, scale_turned, floors_fall, floors_rise}
 
 -- X over a number between b and c is at least the lesser of the floors at b and c
 pub quotient_low : (X : ℤ) (b c r s : ℕ) → 0 < b → b * s ≤ r → r ≤ c * s →
@@ -55,16 +55,11 @@ quotients_high a p k b c r q s z h g e =
     rw (← scale_turned m q r) (≤ℤ_trans ((p *ℤ pos k) *ℤ pos s) ((X *ℤ pos s) *ℤ pos q) ((m *ℤ pos r) *ℤ pos q) (rw t two) one)
 
 -- ---- the lesser of the floors of two quotients, by the sign of the dividend
-quotients_fall : (a b c : ℕ) → 0 < b → b ≤ c → a / c ≤ a / b
-quotients_fall a b c h k = le-div (a / c) a b h (le_trans (mul-le-mul_left (a / c) k) (div-mul-le_self a c))
-
 floor_by_greater : (z : ℤ) (b c : ℕ) → 0 < b → b ≤ c → pos 0 ≤ℤ z → int_min (floor_over z b) (floor_over z c) ≡ floor_over z c
-floor_by_greater (pos a) b c h k n = omega (arith, ints, clamps, quotients_fall a b c h k)
-floor_by_greater (negsuc a) b c h k n = absurd (omega (arith, ints, n))
+floor_by_greater z b c h k n = omega (arith, ints, clamps, floors_fall z b c h k n)
 
 floor_by_less : (z : ℤ) (b c : ℕ) → 0 < b → b ≤ c → z ≤ℤ pos 0 → int_min (floor_over z b) (floor_over z c) ≡ floor_over z b
-floor_by_less (pos a) b c h k n = let e : a ≡ 0 = omega (arith, ints, n) in rw (e, zero-div b, zero-div c) refl
-floor_by_less (negsuc a) b c h k n = omega (arith, ints, clamps, quotients_fall a b c h k)
+floor_by_less z b c h k n = omega (arith, ints, clamps, floors_rise z b c h k n)
 
 -- z times k over ends b and c
 pub least_by_greater : (z b c : ℤ) (k : ℕ) → pos 1 ≤ℤ b → b ≤ℤ c → pos 0 ≤ℤ z → int_min (floor_div (z *ℤ pos k) b) (floor_div (z *ℤ pos k) c) ≡ floor_div (z *ℤ pos k) c

@@ -11,18 +11,18 @@ ghost use Rattle.helmholtz_density.specs.Parts.{IsMixUp};
 use crate::mixes::entropy;
 use crate::volumes::volume;
 use case_types::{BoxX, MixUp, PackingLogs};
-use log_enclose::log2_lo;
+use log_enclose::Logarithms;
 use pr_params::{Params, attraction_term_low, b_range, energy_of_terms, g_lo};
 
 /// What an upper bound of the energy has of the box.
-pub fn mix_up(params: &Params, x: &BoxX) -> MixUp
+pub fn mix_up(params: &Params, logs: Logarithms<'_>, x: &BoxX) -> MixUp
     ensures { IsMixUp (numbers_of params.now.case) (box_of x.now) result }
 {
     let b = b_range(params, x);
     MixUp {
-        mixing: entropy(params.case.n, x),
+        mixing: entropy(logs, params.case.n, x),
         covolume: b.hi as u128,
-        log_covolume: log_covolume(params, b.lo as u128),
+        log_covolume: log_covolume(params, logs, b.lo as u128),
         ratio: g_lo(params, x),
     }
 }
@@ -53,11 +53,11 @@ pub fn up_of_parts(params: &Params, mix: &MixUp, logs: &PackingLogs) -> i128
 }
 
 /// The logarithm of a co-volume, at least.
-fn log_covolume(params: &Params, b: u128) -> i128
+fn log_covolume(params: &Params, logs: Logarithms<'_>, b: u128) -> i128
     requires low { 2 ^ 49 ≤ b }
     requires high { b ≤ 2 ^ 61 }
     ensures value { result ≡ log_down b (56 + (numbers_of params.now.case).lift) }
     ensures small { unsigned_abs result ≤ 2 ^ 46 }
 {
-    log2_lo(b, 56 + params.raised_by())
+    logs.lower(b, 56 + params.raised_by())
 }

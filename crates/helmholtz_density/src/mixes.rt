@@ -6,35 +6,35 @@ ghost use Rattle.log_laws.specs.Whole.{ceil_div};
 ghost use Rattle.case_types.specs.Arithmetic.Bounds.{mixing_up};
 
 use case_types::BoxX;
-use log_enclose::log2_hi;
+use log_enclose::Logarithms;
 
 /// 1 in 2^-40.
 pub const ONE: u64 = 1 << 40;
 
 /// The sum of the mixing terms of the first `n` components, at most, in 2^-40.
-pub fn entropy(n: u8, x: &BoxX) -> i128
+pub fn entropy(logs: Logarithms<'_>, n: u8, x: &BoxX) -> i128
     requires { n ≤ 4 }
     ensures value { result ≡ int_sum_below n (λ i. mixing_up (slice_index x.now.a i) (slice_index x.now.b i)) }
     ensures small { unsigned_abs result ≤ 2 ^ 46 }
 {
     let mut sum = 0;
     for i in 0..n {
-        sum += mixing_at(x, i);
+        sum += mixing_at(logs, x, i);
     }
     sum
 }
 
 /// The mixing term of the component `i`, at most.
-fn mixing_at(x: &BoxX, i: u8) -> i128
+fn mixing_at(logs: Logarithms<'_>, x: &BoxX, i: u8) -> i128
     requires { i < 4 }
     ensures value { result ≡ mixing_up (slice_index x.now.a i) (slice_index x.now.b i) }
     ensures small { unsigned_abs result ≤ slice_index x.now.a i * 2 ^ 6 }
 {
-    mixing(x.a[i as usize], x.b[i as usize])
+    mixing(logs, x.a[i as usize], x.b[i as usize])
 }
 
 /// The mixing term `x log2 x` of a fraction from `a` to `b` in 2^-40, at most. It is 0 where `b` is 0 or 1.
-fn mixing(a: u64, b: u64) -> i128
+fn mixing(logs: Logarithms<'_>, a: u64, b: u64) -> i128
     requires ordered { a ≤ b }
     requires inside { b ≤ 2 ^ 40 }
     ensures value { result ≡ mixing_up a b }
@@ -43,7 +43,7 @@ fn mixing(a: u64, b: u64) -> i128
     if b == 0 || b == ONE {
         return 0;
     }
-    ceiling(part(a, log2_hi(b as u128, 40)))
+    ceiling(part(a, logs.upper(b as u128, 40)))
 }
 
 /// A fraction times a logarithm.

@@ -6,6 +6,7 @@ use super::*;
 use crate::mixes::{ONE, entropy};
 use case_types::{BoxX, Phase, SLOTS};
 use density_boxes::{moles, phase_box};
+use log_enclose::Logarithms;
 use sample_cases::like_components;
 use std::test::Fail;
 
@@ -59,6 +60,6 @@ fn mixing_sums(rt: HostRuntime) {
         // -1/4, and nothing of the others
         (4, mixed, -274_877_906_944),
     ] {
-        assert_eq!(rt; entropy(n, &x), most, "at {n} {most}");
+        assert_eq!(rt; entropy(Logarithms::Anew, n, &x), most, "at {n} {most}");
     }
 }

@@ -12,6 +12,7 @@ ghost use Rattle.case_types.specs.Arithmetic.Bounds.{box_of};
 
 use crate::from_parts::{mix_up, up_of_parts};
 use case_types::BoxX;
+use log_enclose::Logarithms;
 use pr_params::{Params, packing_logs};
 
 /// The energy at every composition of the box and at the packing fraction `y` is at most this, in 2^-40 bit.
@@ -28,5 +29,6 @@ pub fn energy_up(params: &Params, x: &BoxX, y: u64) -> i128
     ensures small { unsigned_abs result ≤ 2 ^ 106 }
     ensures at_half { y ≡ 2 ^ 39 → unsigned_abs result < 2 ^ 49 }
 {
-    up_of_parts(params, &mix_up(params, x), &packing_logs(y))
+    let logs = Logarithms::Anew;
+    up_of_parts(params, &mix_up(params, logs, x), &packing_logs(logs, y))
 }

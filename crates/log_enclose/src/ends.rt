@@ -51,14 +51,8 @@ pub fn log2_ends(low: u128, high: u128, scale: u32) -> (i128, i128)
     requires scaled { scale ≤ 100 }
     ensures low { result.0 ≡ log_down low scale }
     ensures high { result.1 ≡ log_up high scale }
-    ensures at_least { AtLeast (times_log (whole (pos 1)) (ratio low (2 ^ scale))) (record { num = result.0; den = 2 ^ 40 }) }
-    ensures at_most { AtMost (times_log (whole (pos 1)) (ratio high (2 ^ scale))) (record { num = result.1; den = 2 ^ 40 }) }
     ensures low_small { IsSmall result.0 }
     ensures high_small { IsSmall result.1 }
-    ensures low_from_power { (k : ℕ) → 2 ^ k ≤ low → ((pos k -ℤ pos scale) *ℤ pos (2 ^ 40)) ≤ℤ result.0 }
-    ensures low_to_power { (k : ℕ) → low < 2 ^ k → result.0 ≤ℤ ((pos k -ℤ pos scale) *ℤ pos (2 ^ 40)) }
-    ensures high_from_power { (k : ℕ) → 2 ^ k ≤ high → ((pos k -ℤ pos scale) *ℤ pos (2 ^ 40)) ≤ℤ result.1 }
-    ensures high_to_power { (k : ℕ) → high < 2 ^ k → result.1 ≤ℤ ((pos k -ℤ pos scale) *ℤ pos (2 ^ 40)) }
 {
     let (low_exponent, low_mantissa) = parts_of(low);
     let (high_exponent, high_mantissa) = parts_of(high);
@@ -70,7 +64,7 @@ pub fn log2_ends(low: u128, high: u128, scale: u32) -> (i128, i128)
 }
 
 /// The exponent of a number and its mantissa, in `2^-61`.
-fn parts_of(n: u128) -> (u32, u128)
+pub(crate) fn parts_of(n: u128) -> (u32, u128)
     requires positive { 1 ≤ n }
     requires below { n < 2 ^ 62 }
     ensures exponent { result.0 ≡ exponent n }
@@ -83,7 +77,7 @@ fn parts_of(n: u128) -> (u32, u128)
 }
 
 /// A logarithm in `2^-40` from the exponent of the number, its scale and the digits of its mantissa.
-fn joined(exponent: u32, scale: u32, digits: u128) -> i128
+pub(crate) fn joined(exponent: u32, scale: u32, digits: u128) -> i128
     requires exponent { exponent ≤ 61 }
     requires scaled { scale ≤ 100 }
     requires digits { digits ≤ 2 ^ 40 }
@@ -91,21 +85,6 @@ fn joined(exponent: u32, scale: u32, digits: u128) -> i128
     ensures small { IsSmall result }
 {
     (exponent as i128 - scale as i128) * (1 << 40) + digits as i128
-}
-
-/// Ends of the logarithms of all `n / 2^scale` with n in the interval, in `2^-40`.
-pub fn log2_iv(a: Iv, scale: u32) -> Iv
-    requires positive { pos 1 ≤ℤ a.lo }
-    requires scaled { scale ≤ 100 }
-    ensures lo { result.lo ≡ log_down (unsigned_abs a.lo) scale }
-    ensures hi { result.hi ≡ log_up (unsigned_abs a.hi) scale }
-    ensures at_least { (n : ℕ) → a.lo ≤ℤ pos n → pos n ≤ℤ a.hi →
-        AtLeast (times_log (whole (pos 1)) (ratio n (2 ^ scale))) (record { num = result.lo; den = 2 ^ 40 }) }
-    ensures at_most { (n : ℕ) → a.lo ≤ℤ pos n → pos n ≤ℤ a.hi →
-        AtMost (times_log (whole (pos 1)) (ratio n (2 ^ scale))) (record { num = result.hi; den = 2 ^ 40 }) }
-{
-    let (lo, hi) = log2_ends(a.lo as u128, a.hi as u128, scale);
-    Iv { lo, hi }
 }
 
 /// The ends of the logarithm of e, in `2^-40`.

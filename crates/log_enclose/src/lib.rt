@@ -9,9 +9,13 @@
 mod digits;
 mod ends;
 mod powers;
+mod sources;
+mod store;
 #[cfg(test)]
 mod tests;
 
 pub use digits::{log2_down, log2_up};
-pub use ends::{log2_ends, log2_hi, log2_iv, log2_lo, log2e};
+pub use ends::{log2_hi, log2_lo, log2e};
 pub use powers::exp2_near;
+pub use sources::{Logarithms, log2_iv};
+pub use store::LogStore;

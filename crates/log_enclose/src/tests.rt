@@ -2,6 +2,7 @@
 
 use super::*;
 use crate::digits::{log2_down, log2_up};
+use crate::ends::log2_ends;
 use log_laws::Iv;
 
 #[test]
@@ -43,4 +44,22 @@ fn logarithms(rt: HostRuntime) {
         assert!(rt; least <= near);
         assert!(rt; near <= greatest);
     }
+}
+
+/// Twice the same numbers, of which one has the mantissa of another, and more of them than places.
+#[test]
+fn stores_answer_as_squarings_do(rt: HostRuntime) {
+    let store = LogStore::new();
+    let kept = Logarithms::Kept(&store);
+    for _time in 0..2 {
+        for n in [1u128, 2, 3, 6, 1 << 40, (1 << 62) - 1] {
+            assert_eq!(rt; kept.lower(n, 40), log2_lo(n, 40), "of {n}");
+            assert_eq!(rt; kept.upper(n, 40), log2_hi(n, 40), "of {n}");
+        }
+    }
+    for n in 1u128..6000 {
+        assert_eq!(rt; kept.lower(n, 40), log2_lo(n, 40), "of {n}");
+    }
+    let some = Iv { lo: 5, hi: 7 };
+    assert_eq!(rt; kept.of(some, 3), log2_iv(some, 3));
 }

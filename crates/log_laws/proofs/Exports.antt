@@ -5,7 +5,7 @@ pub use Rattle.log_laws.proofs.Ring.{up-mul, down-mul, mul_assoc_ℤ, mul-add_�
 pub use Rattle.log_laws.proofs.Ring.{mul-le_ℤ, le_of_mul-le_ℤ, between, ≤ℤ_trans, add_above, add_below, corner_low, corner_high, product_low, product_high}
 pub use Rattle.log_laws.proofs.Ring.{floor_over-le, lt-floor_over, le-ceil_over, ceil_over-pos}
 pub use Rattle.log_laws.proofs.Signs.{no_less, either_sign, products_up, products_down, factor_up, cancel, scale_less, unscale_less, unscale_same}
-pub use Rattle.log_laws.proofs.Floors.{scaled_quotient, floor_shifted}
+pub use Rattle.log_laws.proofs.Floors.{scaled_quotient, floor_shifted, floors_fall, floors_rise}
 pub use Rattle.log_laws.proofs.Ceilings.{le-ceiling, floor-le-ceiling, ceiling_at_most}
 pub use Rattle.log_laws.proofs.Powers.{pow-mul, pow_pos_of, one-pow, le_of_pow-le}
 pub use Rattle.log_laws.proofs.Wide.{back}

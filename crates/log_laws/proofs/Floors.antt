@@ -1,6 +1,7 @@
--- Floors of scaled quotients, by a shift that makes them natural.
-use Rattle.std.proofs.Common.{◌≡◌, ℕ, ◌+◌, ◌*◌, ◌/◌, ◌%◌, ◌<◌, inl, inr, ℤ, pos, ◌+ℤ◌, ◌-ℤ◌, ◌*ℤ◌, ◌≤ℤ◌, ◌<ℤ◌, ap, sym, ◌∙◌, arith}
-use Rattle.std.proofs.Math.Nat.{add-mul-div_right, div-mul-le_self, lt-div-mul-add}
+-- Floors: of scaled quotients, by a shift that makes them natural, and of one number over two divisors.
+use Rattle.std.proofs.Common.{◌≡◌, ℕ, ◌+◌, ◌*◌, ◌/◌, ◌%◌, ◌<◌, ◌≤◌, inl, inr, ℤ, pos, negsuc, ◌+ℤ◌, ◌-ℤ◌, ◌*ℤ◌, ◌≤ℤ◌, ◌<ℤ◌, ap, sym, ◌∙◌, arith}
+use Rattle.std.proofs.Math.Nat.{add-mul-div_right, div-mul-le_self, lt-div-mul-add, mul-le-mul_left, le_trans, zero-div}
+use Rattle.std.proofs.lemmas.Nat.{le-div}
 use Rattle.std.proofs.lemmas.Int.{ints}
 use Rattle.log_laws.specs.Whole.{floor_over}
 use Rattle.log_laws.proofs.Ring.{floor_over-le, lt-floor_over, add-mul_ℤ, mul-le_ℤ}
@@ -56,3 +57,15 @@ floor_shifted y a k s t h e =
       where
         again : (d : ℤ) (q k s : ℕ) → d +ℤ pos k ≡ pos q → d *ℤ pos s +ℤ pos (k * s) ≡ pos (q * s)
         again d q k s e = sym (add-mul_ℤ d (pos k) (pos s)) ∙ ap (λ (z : ℤ). z *ℤ pos s) e
+
+-- a greater divisor makes the floor of a number that is not negative no greater, and of one that is not positive no less
+quotients_fall : (a b c : ℕ) → 0 < b → b ≤ c → a / c ≤ a / b
+quotients_fall a b c h k = le-div (a / c) a b h (le_trans (mul-le-mul_left (a / c) k) (div-mul-le_self a c))
+
+pub floors_fall : (z : ℤ) (b c : ℕ) → 0 < b → b ≤ c → pos 0 ≤ℤ z → floor_over z c ≤ℤ floor_over z b
+floors_fall (pos a) b c h k n = omega (arith, ints, quotients_fall a b c h k)
+floors_fall (negsuc a) b c h k n = absurd (omega (arith, ints, n))
+
+pub floors_rise : (z : ℤ) (b c : ℕ) → 0 < b → b ≤ c → z ≤ℤ pos 0 → floor_over z b ≤ℤ floor_over z c
+floors_rise (pos a) b c h k n = let e : a ≡ 0 = omega (arith, ints, n) in rw (e, zero-div b, zero-div c) (omega (arith, ints))
+floors_rise (negsuc a) b c h k n = omega (arith, ints, quotients_fall a b c h k)

@@ -9,6 +9,7 @@ ghost use Rattle.energy_surface.specs.Lawful.{IsLawful};
 ghost use Rattle.pr_surface.specs.PengRobinson.{surface_of};
 
 use case_types::{Answer, Memory};
+use log_enclose::{LogStore, Logarithms};
 use pr_params::Params;
 use pr_surface::PengRobinson;
 use std::alloc::Global;
@@ -34,5 +35,8 @@ pub fn flash_tp(alloc: Global, params: &Params, tol: u32, budget: u32) -> Result
     ensures near { IfOk result (λ a. a.outcome ≡ Closed → a.gap ≤ℤ pos (3 * tol * 2 ^ 18)) }
     ensures lawful { IfOk result (λ a. IsLawful (surface_of (numbers_of params.now.case)) params.now.case tol budget a) }
 {
-    flashed(alloc, &PengRobinson { params }, &params.case, tol, budget)
+    let store = LogStore::new();
+    let logs = Logarithms::Kept(&store);
+    let surface = PengRobinson { params, logs };
+    flashed(alloc, &surface, &params.case, tol, budget)
 }

@@ -13,14 +13,14 @@ ghost use Rattle.pr_params.specs.Packings.{IsPacking};
 use crate::constants::{ROOT_TWO_HI, ROOT_TWO_LO};
 use crate::naturals::interval;
 use crate::numbers::Params;
-use log_enclose::log2_iv;
+use log_enclose::Logarithms;
 use log_laws::Iv;
 
 /// 1 in 2^-40.
 const ONE: u128 = 1 << 40;
 
 /// The logarithm at the packing fraction `y` in 2^-40, at least and at most, in 2^-40.
-pub fn lambda_ends(y: u64) -> Iv
+pub fn lambda_ends(logs: Logarithms<'_>, y: u64) -> Iv
     requires { y ≤ 2 ^ 40 }
     ensures lo { (c : Case) → result.lo ≡ lambda_down (numbers_of c) y }
     ensures hi { (c : Case) → result.hi ≡ lambda_up (numbers_of c) y }
@@ -39,8 +39,8 @@ pub fn lambda_ends(y: u64) -> Iv
 {
     let (lo, hi) = stretched(y);
     let whole = ONE + y as u128;
-    let above = log2_iv(interval(whole + lo, whole + hi), 40);
-    let below = log2_iv(interval(whole - hi, whole - lo), 40);
+    let above = logs.of(interval(whole + lo, whole + hi), 40);
+    let below = logs.of(interval(whole - hi, whole - lo), 40);
     Iv {
         lo: above.lo - below.hi,
         hi: above.hi - below.lo,
@@ -58,7 +58,7 @@ pub fn lam_hi(_params: &Params, y: u64) -> i128
         AtMost (log_of (attraction_argument x.root_two packing)) (bits result) }
     ensures small { unsigned_abs result ≤ 2 ^ 42 }
 {
-    lambda_ends(y).hi
+    lambda_ends(Logarithms::Anew, y).hi
 }
 
 /// The logarithm at least, in 2^-40, at the packing fraction `y` in 2^-40.
@@ -72,7 +72,7 @@ pub fn lam_lo(_params: &Params, y: u64) -> i128
         AtLeast (log_of (attraction_argument x.root_two packing)) (bits result) }
     ensures small { unsigned_abs result ≤ 2 ^ 42 }
 {
-    lambda_ends(y).lo
+    lambda_ends(Logarithms::Anew, y).lo
 }
 
 /// The root of 2 times the packing fraction, rounded down and rounded up.

@@ -9,7 +9,7 @@ ghost use Rattle.pr_params.specs.Packings.{log_or_none, ArePackingLogs};
 use crate::lambdas::lambda_ends;
 use crate::naturals::{interval, none};
 use case_types::PackingLogs;
-use log_enclose::log2_iv;
+use log_enclose::Logarithms;
 use log_laws::Iv;
 
 /// 1 in 2^-40.
@@ -17,14 +17,14 @@ const ONE: u64 = 1 << 40;
 
 /// The logarithms at the packing fraction `y` in 2^-40: of itself, of what it leaves of 1 and of the attraction term, each
 /// at least and at most, in 2^-40. The logarithm of 0 is given as 0.
-pub fn packing_logs(y: u64) -> PackingLogs
+pub fn packing_logs(logs: Logarithms<'_>, y: u64) -> PackingLogs
     requires { y ≤ 2 ^ 40 }
     ensures at { result.packing ≡ y }
     ensures logs { (c : Case) → ArePackingLogs (numbers_of c) y result }
 {
-    let packing = log_ends(y);
-    let rest = log_ends(ONE - y);
-    let lambda = lambda_ends(y);
+    let packing = log_ends(logs, y);
+    let rest = log_ends(logs, ONE - y);
+    let lambda = lambda_ends(logs, y);
     PackingLogs {
         packing: y,
         packing_low: packing.lo,
@@ -37,7 +37,7 @@ pub fn packing_logs(y: u64) -> PackingLogs
 }
 
 /// The logarithm of a number in 2^-40, at least and at most, in 2^-40. That of 0 is given as 0.
-fn log_ends(y: u64) -> Iv
+fn log_ends(logs: Logarithms<'_>, y: u64) -> Iv
     requires { y ≤ 2 ^ 40 }
     ensures lo { result.lo ≡ log_or_none log_down y }
     ensures hi { result.hi ≡ log_or_none log_up y }
@@ -47,5 +47,5 @@ fn log_ends(y: u64) -> Iv
     if y == 0 {
         return none();
     }
-    log2_iv(interval(y as u128, y as u128), 40)
+    logs.of(interval(y as u128, y as u128), 40)
 }

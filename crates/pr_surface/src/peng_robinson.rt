@@ -12,16 +12,18 @@ ghost use Rattle.std.specs.Prelude.{◌≡◌};
 use case_types::{BoxX, Cell, MixLow, MixSlope, MixUp, PackingLogs, PackingSlope, Plane};
 use energy_surface::Surface;
 use helmholtz_density::{mix_up, up_of_parts};
+use log_enclose::Logarithms;
 use pr_params::{Params, packing_logs};
 use tangent_bound::{low_of_parts, mix_low, mix_slope, packing_slope, slope_of_parts};
 
-/// The energy surface that the parameters make.
+/// The energy surface that the parameters make, and where its logarithms come from.
 #[derive(Clone, Copy)]
-pub struct PengRobinson<'a> {
+pub struct PengRobinson<'a, 'b> {
     pub params: &'a Params,
+    pub logs: Logarithms<'b>,
 }
 
-impl Surface for PengRobinson<'_> {
+impl Surface for PengRobinson<'_, '_> {
     ghost bounds = { λ s. surface_of (numbers_of s.params.now.case) };
 
     ghost is_mix_low = { λ s x m. IsMixLow (numbers_of s.params.now.case) x m };
@@ -39,15 +41,15 @@ impl Surface for PengRobinson<'_> {
     }
 
     fn mix_low(&self, x: &BoxX) -> MixLow {
-        mix_low(self.params, x)
+        mix_low(self.params, self.logs, x)
     }
 
     fn mix_up(&self, x: &BoxX) -> MixUp {
-        mix_up(self.params, x)
+        mix_up(self.params, self.logs, x)
     }
 
     fn logs(&self, y: u64) -> PackingLogs {
-        packing_logs(y)
+        packing_logs(self.logs, y)
     }
 
     fn low(&self, mix: &MixLow, from: &PackingLogs, to: &PackingLogs) -> i128 {
@@ -59,7 +61,7 @@ impl Surface for PengRobinson<'_> {
     }
 
     fn mix_slope(&self, plane: &Plane, cell: &Cell) -> Option<MixSlope> {
-        mix_slope(self.params, plane, cell)
+        mix_slope(self.params, self.logs, plane, cell)
     }
 
     fn packing_slope(
@@ -68,7 +70,7 @@ impl Surface for PengRobinson<'_> {
         _middle: &PackingLogs,
         to: &PackingLogs,
     ) -> Option<PackingSlope> {
-        packing_slope(from.packing, to.packing)
+        packing_slope(self.logs, from.packing, to.packing)
     }
 
     fn slope(&self, mix: &MixSlope, packing: &PackingSlope) -> Option<i128> {

@@ -11,6 +11,7 @@ ghost use Rattle.pr_surface.specs.PengRobinson.{surface_of};
 use crate::peng_robinson::PengRobinson;
 use case_types::{Letters, Plane, Units};
 use energy_surface::Found;
+use log_enclose::Logarithms;
 use pr_params::Params;
 
 /// Searches the whole domain for a grid point below the plane by more than `delta`, in 2^-40 bit, as `box_search::search`
@@ -33,5 +34,9 @@ pub fn search(
     ensures budget { units.new.budget ≡ units.old.budget }
     ensures spent { units.old.spent + units_of result ≤ units.new.spent }
 {
-    box_search::search(&PengRobinson { params }, plane, delta, letters, units)
+    let surface = PengRobinson {
+        params,
+        logs: Logarithms::Anew,
+    };
+    box_search::search(&surface, plane, delta, letters, units)
 }

@@ -10,6 +10,7 @@ ghost use Rattle.case_types.specs.Energy.Instances.{Instance, IsInstance};
 
 use crate::peng_robinson::PengRobinson;
 use case_types::Split;
+use log_enclose::Logarithms;
 use pr_params::Params;
 
 /// The energy of the split is at most this, in 2^-40 bit for a mole of feed, for every choice of the roots and of the logarithm
@@ -22,5 +23,9 @@ pub fn split_energy(params: &Params, split: &Split) -> i128
         AtMost (energy_of_division params.now.case roots (division_of split.now)) (bits result) }
     ensures small { unsigned_abs result ≤ 2 ^ 109 }
 {
-    split_energies::split_energy(&PengRobinson { params }, &params.case, split)
+    let surface = PengRobinson {
+        params,
+        logs: Logarithms::Anew,
+    };
+    split_energies::split_energy(&surface, &params.case, split)
 }

@@ -5,7 +5,7 @@ ghost use Rattle.log_laws.specs.Interval.{ends_of};
 ghost use Rattle.slope_form.specs.Arithmetic.{sum_of_ends, difference_of_ends, product_of_ends, quotient_of_ends, log_of_ends, ends_if};
 
 use fix_interval::{cap, div_ends, mul_ends};
-use log_enclose::log2_iv;
+use log_enclose::Logarithms;
 use log_laws::Iv;
 
 /// The interval of 0 alone.
@@ -61,12 +61,12 @@ pub fn quotient(a: Iv, b: Iv) -> Option<Iv>
 
 /// The interval of the logarithms to the base 2 of the numbers of `a`, in 2^-40 and rounded outward; `None` where `a` begins
 /// below 1.
-pub fn logarithm(a: Iv) -> Option<Iv>
+pub fn logarithm(logs: Logarithms<'_>, a: Iv) -> Option<Iv>
     ensures { ends_if result ≡ log_of_ends (ends_of a) }
 {
     if a.lo < 1 {
         return None;
     }
-    let log = log2_iv(a, 40);
+    let log = logs.of(a, 40);
     cap(log.lo, log.hi)
 }

@@ -10,6 +10,7 @@ ghost use Rattle.slope_form.specs.Laws.{KeepsXLogX};
 
 use crate::arithmetic::{logarithm, product, sum};
 use fix_interval::cap;
+use log_enclose::Logarithms;
 use log_laws::Iv;
 
 /// An end times a fraction in 2^-40.
@@ -68,7 +69,7 @@ fn two(at: Option<Iv>, by: Option<Iv>) -> Option<(Iv, Iv)>
 /// The value of x log x at `m`, and its slope for x from `a` to `b` around `m`, all in 2^-40 and with the logarithm to the base 2;
 /// at 0 x log x is 0. `None` where `m` is 0, or where an end of the slope or of its parts has size 2^61 or more. The logarithm of
 /// Euler's number is `e`.
-pub fn xlogx(a: u64, b: u64, m: u64, e: Iv) -> Option<(Iv, Iv)>
+pub fn xlogx(logs: Logarithms<'_>, a: u64, b: u64, m: u64, e: Iv) -> Option<(Iv, Iv)>
     requires e { ends_of e ≡ log_e_ends }
     requires low { a ≤ m }
     requires high { m ≤ b }
@@ -83,6 +84,6 @@ pub fn xlogx(a: u64, b: u64, m: u64, e: Iv) -> Option<(Iv, Iv)>
         lo: m as i128,
         hi: m as i128,
     };
-    let log = logarithm(point);
+    let log = logarithm(logs, point);
     two(value_at(point, log), slope_at(log, bend(a, b, m, e)))
 }

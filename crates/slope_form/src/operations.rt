@@ -8,6 +8,7 @@ ghost use Rattle.slope_form.specs.Forms.{quotient_slope as the_quotient_slope, f
 ghost use Rattle.slope_form.specs.Arithmetic.{ends_if, both, sum_of_ends, product_of_ends};
 
 use crate::arithmetic::{difference, logarithm, product, quotient, sum};
+use log_enclose::Logarithms;
 use log_laws::{Iv, Slope};
 
 /// The form of a number that doesn't change over the cell and lies in `c`, in 2^-40.
@@ -150,7 +151,7 @@ pub fn div(f: Slope, g: Slope) -> Option<Slope>
 /// The form of the logarithm to the base 2 of a fraction; its slope is that of `f` times the logarithm `e` of Euler's number over
 /// the range of `f`. `None` where `f` begins below 1, at the centre or over the cell, or where an end of a slope has size 2^61
 /// or more.
-pub fn log2(f: Slope, e: Iv) -> Option<Slope>
+pub fn log2(logs: Logarithms<'_>, f: Slope, e: Iv) -> Option<Slope>
     requires { ends_of e ≡ log_e_ends }
     ensures value { form_if result ≡ log_form (form_of f) (ends_of e) }
     ensures holds { IfSome result (λ h. KeepsLog (form_of f) (form_of h)) }
@@ -158,8 +159,8 @@ pub fn log2(f: Slope, e: Iv) -> Option<Slope>
     let [f0, f1, f2, f3] = f.by;
     let slope = quotient(e, f.over);
     form(
-        logarithm(f.at),
-        logarithm(f.over),
+        logarithm(logs, f.at),
+        logarithm(logs, f.over),
         four(
             log_slope(f0, slope),
             log_slope(f1, slope),

@@ -1,7 +1,7 @@
 //! Worked rows: forms of two fractions; the slopes that a row doesn't name are 0.
 
 use super::*;
-use log_enclose::log2e;
+use log_enclose::{Logarithms, log2e};
 use log_laws::Iv;
 
 const ZERO: Iv = Iv { lo: 0, hi: 0 };
@@ -86,10 +86,10 @@ fn rows(rt: HostRuntime) {
         hi: 1586260020565,
     };
     assert_eq!(rt;
-        log2(positive, log2e()),
+        log2(Logarithms::Anew, positive, log2e()),
         Some(form(ZERO, up_to_one, of_log, ZERO))
     );
-    assert_eq!(rt; log2(f, log2e()), None);
+    assert_eq!(rt; log2(Logarithms::Anew, f, log2e()), None);
 }
 
 #[test]
@@ -104,10 +104,10 @@ fn mixing_and_lows(rt: HostRuntime) {
         hi: 3172520041130 - (1 << 40),
     };
     assert_eq!(rt;
-        xlogx(1 << 38, 1 << 40, 1 << 39, log2e()),
+        xlogx(Logarithms::Anew, 1 << 38, 1 << 40, 1 << 39, log2e()),
         Some((value, slope))
     );
-    assert_eq!(rt; xlogx(0, 1, 0, log2e()), None);
+    assert_eq!(rt; xlogx(Logarithms::Anew, 0, 1, 0, log2e()), None);
     // 1, less what slopes from -2/2^40 to 3/2^40 take off over steps from -3/4 to 1/2: 2.25/2^40, rounded to 3/2^40.
     let by = Iv { lo: -2, hi: 3 };
     let step = Iv {

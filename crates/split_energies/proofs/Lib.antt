@@ -1,2 +1,6 @@
+pub mod Exports
+pub mod ExactShares
+pub mod FeedPhase
+pub mod OnePhase
 pub mod Weighed
 pub mod Parts

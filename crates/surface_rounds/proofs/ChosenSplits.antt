@@ -1,71 +1,34 @@
 -- The split that a round chooses: its energy, and that it divides the feed.
-use Rattle.std.proofs.Common.{◌≡◌, ℕ, zero, suc, ◌+◌, ◌-◌, ◌*◌, ◌^◌, ◌<◌, ◌≤◌, Bool, true, false, List, [], ◌∷◌, ◌++◌, ℤ, pos, neg_ℤ, ◌+ℤ◌, ◌*ℤ◌, ◌≤ℤ◌, ◌<ℤ◌, unsigned_abs, slice_index, refl, ap, sym, ◌∙◌, arith, lit<}
+use Rattle.std.proofs.Common.{◌≡◌, ℕ, zero, suc, ◌*◌, ◌^◌, ◌<◌, ◌≤◌, Bool, true, false, List, [], ◌++◌, ℤ, pos, ◌+ℤ◌, ◌≤ℤ◌, ◌<ℤ◌, unsigned_abs, slice_index, refl, ap, sym, ◌∙◌, arith}
 use Rattle.std.specs.Prelude.{if◌then◌else◌, nat_eq, int_le}
-use Rattle.std.specs.Int.{int_max}
 use Rattle.std.specs.List.{All}
-use Rattle.std.proofs.Math.Nat.{mul-pos, zero-div}
-use Rattle.std.proofs.lemmas.Int.{ints, clamps}
+use Rattle.std.proofs.Math.Nat.{mul-pos}
+use Rattle.std.proofs.lemmas.Int.{ints}
 use Rattle.std.proofs.lemmas.List.{append-nil}
 use Rattle.std.proofs.lemmas.List.Elements.{All-cons, All-nil}
-use Rattle.std.proofs.lemmas.Nat.{div-mul-add}
 use Rattle.log_laws.specs.Sums.{sum_below, int_sum_below}
-use Rattle.log_laws.specs.Whole.{ceil_over}
-use Rattle.log_laws.proofs.Exports.{floor_over-le, lt-floor_over}
 use Rattle.case_types.specs.declared.cases.Case.{Case}
 use Rattle.case_types.specs.declared.phases.Phase.{Phase}
 use Rattle.case_types.specs.declared.phases.Split.{Split}
 use Rattle.case_types.specs.declared.rounds.Column.{Column}
-use Rattle.case_types.specs.Arithmetic.Bounds.{Box, share_down, share_up, box_of_parts}
+use Rattle.case_types.specs.Arithmetic.Bounds.{box_of_parts}
 use Rattle.case_types.specs.Arithmetic.Splits.{share_of_energy, phase_up, phases_up, split_up}
-use Rattle.case_types.specs.Energy.Divisions.{state_of, IsState, Divides, division_of}
-use Rattle.case_types.proofs.Exports.{state_of-is_state, total_positive}
+use Rattle.case_types.specs.Energy.Divisions.{Divides, division_of}
+use Rattle.case_types.proofs.Exports.{total_positive}
 use Rattle.energy_surface.specs.Columns.{IsColumn}
 use Rattle.energy_surface.specs.Program.Bases.{no_column, column_at, system, AreColumns, IsBasis}
 use Rattle.energy_surface.specs.Program.Solutions.{size}
 use Rattle.energy_surface.specs.Program.Splits.{weighted_phase, weighted_phases, weight_of, phases_below}
 use Rattle.energy_surface.specs.Rounds.{basis_up}
 use Rattle.energy_surface.specs.Surfaces.{Surface}
-use Rattle.exact_lp.proofs.Exports.{spans_above, up_of_column, phases_small, phases_up-append, basis_split_divides, live_parts_sum, some_weight, phase_has_packing}
+use Rattle.exact_lp.proofs.Exports.{spans_above, up_of_column, phases_small, phases_up-append, basis_split_divides, live_parts_sum, some_weight}
 use Rattle.surface_rounds.specs.declared.choices.Choice.{Choice}
 use Rattle.surface_rounds.specs.declared.choices.Choice.TheVariants.{OnePhase, OfBasis}
 use Rattle.surface_rounds.specs.declared.choices.Chosen.{Chosen}
-use Rattle.surface_rounds.specs.Choices.{chosen, columns_up, feed_phase, IsOnePhase, IsSplitBy}
-use Rattle.surface_rounds.proofs.FeedPhase.{feed_part_of, feed_parts_sum, feed_box_is}
+use Rattle.split_energies.specs.Feeds.{feed_phase}
+use Rattle.split_energies.proofs.Exports.{no_share, feed_up, one_phase_energy, one_phase_divides}
+use Rattle.surface_rounds.specs.Choices.{chosen, columns_up, IsSplitBy}
 use Rattle.std.proofs.lemmas.Bool.{eqb-true}
-
--- ---- shares of nothing and of all
-ceiling_of : (u : ℤ) → ceil_over (pos (2 ^ 60) *ℤ u) (2 ^ 60) ≡ u
-ceiling_of u =
-    let x : ℤ = pos (2 ^ 60) *ℤ u in
-    let low = floor_over-le (neg_ℤ x) (2 ^ 60) (lit< tt) in
-    let high = lt-floor_over (neg_ℤ x) (2 ^ 60) (lit< tt) in
-    omega (arith, ints, low, high)
-
-greater_same : (x : ℤ) → int_max x x ≡ x
-greater_same x = omega (arith, ints, clamps)
-
--- a share that is whole either way
-exact_share : (m q w : ℕ) (u : ℤ) → share_down (2 ^ 60) m q ≡ w → share_up (2 ^ 60) m q ≡ w → share_of_energy m q u ≡ ceil_over (pos w *ℤ u) (2 ^ 60)
-exact_share m q w u down up = rw (down, up, greater_same (pos w *ℤ u)) refl
-
-whole_share : (w : ℕ) (u : ℤ) → 0 < w → share_of_energy w w u ≡ u
-whole_share w u some =
-    let turned : w * 2 ^ 60 ≡ 2 ^ 60 * w = omega arith in
-    let plain : 2 ^ 60 * w ≡ 2 ^ 60 * w + 0 = omega arith in
-    exact_share w w (2 ^ 60) u
-    (rw (turned, plain) (div-mul-add (2 ^ 60) w 0 some)) (rw turned (div-mul-add (2 ^ 60) w (w - 1) (omega (arith, some))))
-    ∙ ceiling_of u
-
-no_product : (u : ℤ) → pos 0 *ℤ u ≡ pos 0
-no_product u = omega (arith, ints)
-
-no_share : (q : ℕ) (u : ℤ) → 0 < q → share_of_energy 0 q u ≡ pos 0
-no_share q u some =
-    let none : 0 + (q - 1) ≡ 0 * q + (q - 1) = omega arith in
-    exact_share 0 q 0 u (zero-div q) (rw none (div-mul-add 0 q (q - 1) (omega (arith, some)))) ∙ ap (λ z. ceil_over z (2 ^ 60)) (no_product u)
-
-pub share_same : (m p q r : ℕ) (u v : ℤ) → m ≡ p → q ≡ r → u ≡ v → share_of_energy m q u ≡ share_of_energy p r v
-share_same m p q r u v e f g = rw (e, f, g) refl
 
 -- ---- the energy of the split of a basis
 module _ (s : Surface) (c : Case) (cols : List Column) (at : List ℕ) (count : s.count ≡ c.n) (basis : IsBasis c cols at) (good : All (λ (col : Column). IsColumn s col) cols) where
@@ -106,38 +69,6 @@ module _ (s : Surface) (c : Case) (cols : List Column) (at : List ℕ) (count : 
 pub columns_up_is : (s : Surface) (c : Case) (cols : List Column) (at : List ℕ) → s.count ≡ c.n → IsBasis c cols at → All (λ (col : Column). IsColumn s col) cols →
     columns_up c cols at ≡ basis_up s c cols at
 columns_up_is s c cols at count basis good = phases_are_shares s c cols at count basis good c.n (omega arith)
-
--- ---- the feed as one phase
-phases_alone : (n : ℕ) (up : Box → ℕ → ℤ) (sum : ℕ) (f : Phase) → phases_up n up sum (f ∷ []) ≡ share_of_energy (sum_below n (slice_index f.parts)) sum (phase_up n up f)
-unfolding phases_up
-phases_alone n up sum f = plus_none (share_of_energy (sum_below n (slice_index f.parts)) sum (phase_up n up f))
-  where
-    plus_none : (z : ℤ) → z +ℤ pos 0 ≡ z
-    plus_none z = omega (arith, ints)
-
-feed_up : (s : Surface) (c : Case) (y : ℕ) → s.count ≡ c.n → phase_up s.count s.up (feed_phase c y) ≡ s.up (box_of_parts c.n c.z) y
-feed_up s c y count = ap (λ n. s.up (box_of_parts n (feed_phase c y).parts) y) count ∙ ap (λ x. s.up x y) (feed_box_is c y)
-
--- its energy is that of the state
-pub one_phase_energy : (s : Surface) (c : Case) (y : ℕ) (up : ℤ) (split : Split) → s.count ≡ c.n → IsOnePhase c y split →
-    up ≡ s.up (box_of_parts c.n c.z) y → up ≡ split_up s.count s.up split
-one_phase_energy s c y up split count is e =
-    let all = ap (λ n. sum_below n (slice_index (feed_phase c y).parts)) count ∙ feed_parts_sum c y in
-    rw (is.sum, is.phases)
-    (e ∙ sym (feed_up s c y count) ∙ sym (whole_share c.total (phase_up s.count s.up (feed_phase c y)) (total_positive c))
-    ∙ share_same _ _ _ _ _ _ (sym all) refl refl ∙ sym (phases_alone s.count s.up c.total (feed_phase c y)))
-
-pub one_phase_divides : (c : Case) (y : ℕ) (split : Split) → IsOnePhase c y split → 1 ≤ y → y < 2 ^ 40 → Divides c (division_of split)
-one_phase_divides c y split is some inside = record {
-  positive = rw is.sum (total_positive c);
-  phases =
-      rw is.phases (All-cons (IsState c.n) (state_of (feed_phase c y)) []
-      (state_of-is_state c.n (feed_phase c y) (phase_has_packing y some inside) (rw (feed_parts_sum c y) (total_positive c))) (All-nil (IsState c.n)));
-  adds_up = λ i h. rw (is.sum, is.phases) (turned (slice_index (feed_phase c y).parts i) (slice_index c.z i) c.total (feed_part_of c y i h));
-}
-  where
-    turned : (a z t : ℕ) → a ≡ z → t * (a + 0) ≡ z * t
-    turned a z t e = rw e (omega arith)
 
 -- ---- the split that is chosen
 pub split_by_divides : (c : Case) (cols : List Column) (at : List ℕ) (y : ℕ) (choice : Choice) (split : Split) → AreColumns c.n cols → IsBasis c cols at →

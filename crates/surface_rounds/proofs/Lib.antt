@@ -1,7 +1,6 @@
 pub mod Growing
 pub mod ScanSteps
 pub mod PureColumns
-pub mod FeedPhase
 pub mod ChosenSplits
 pub mod Pivoting
 pub mod FlashSoFar

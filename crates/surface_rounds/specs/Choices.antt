@@ -1,14 +1,14 @@
 -- The split that a round chooses.
-use Rattle.std.specs.Prelude.{ℕ, ◌*◌, ◌^◌, ◌≡◌, if◌then◌else◌, nat_lt, List, [], ◌∷◌, ℤ, ◌+ℤ◌, int_le, slice_index}
+use Rattle.std.specs.Prelude.{ℕ, ◌*◌, ◌^◌, if◌then◌else◌, List, ℤ, ◌+ℤ◌, int_le, slice_index}
 use Rattle.log_laws.specs.Sums.{int_sum_below}
 use Rattle.case_types.specs.declared.cases.Case.{Case}
-use Rattle.case_types.specs.declared.phases.Phase.{Phase}
 use Rattle.case_types.specs.declared.phases.Split.{Split}
 use Rattle.case_types.specs.declared.rounds.Column.{Column}
 use Rattle.case_types.specs.Arithmetic.Splits.{share_of_energy}
 use Rattle.energy_surface.specs.Program.Bases.{column_at, system}
 use Rattle.energy_surface.specs.Program.Solutions.{size}
 use Rattle.energy_surface.specs.Program.Splits.{weight_of, IsBasisSplit}
+use Rattle.split_energies.specs.Feeds.{IsOnePhase}
 use Rattle.surface_rounds.specs.declared.choices.Choice.{Choice}
 use Rattle.surface_rounds.specs.declared.choices.Choice.TheVariants.{OnePhase, OfBasis}
 use Rattle.surface_rounds.specs.declared.choices.Chosen.{Chosen}
@@ -22,17 +22,6 @@ chosen alone basis slack =
 abbrev pub columns_up : Case → List Column → List ℕ → ℤ
 columns_up c cols at =
     int_sum_below c.n (λ k. share_of_energy (weight_of c cols at k * 2 ^ 20) (c.total * size c.n (system cols at)) (column_at cols (slice_index at k)).up)
-
--- the feed as a phase, and nothing of components that aren't there
-abbrev pub feed_part : Case → ℕ → ℕ
-feed_part c i = if nat_lt i c.n then slice_index c.z i else 0
-
-abbrev pub feed_phase : Case → ℕ → Phase
-feed_phase c y = record { parts = feed_part c 0 ∷ feed_part c 1 ∷ feed_part c 2 ∷ feed_part c 3 ∷ []; packing = y }
-
-pub record IsOnePhase (c : Case) (y : ℕ) (s : Split) : Type 0 where
-  pub sum : s.sum ≡ c.total
-  pub phases : s.phases.items ≡ feed_phase c y ∷ []
 
 -- the split that is chosen, where the one phase has this packing
 abbrev pub IsSplitBy : Case → List Column → List ℕ → ℕ → Choice → Split → Type 0

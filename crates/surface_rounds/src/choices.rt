@@ -3,13 +3,12 @@
 ghost use Rattle.std.specs.Prelude.{◌≡◌, ◌≤◌, ◌<◌, ◌*◌, ◌^◌, length, pos, ◌≤ℤ◌, unsigned_abs, All};
 ghost use Rattle.case_types.specs.declared.rounds.Column.{Column};
 ghost use Rattle.energy_surface.specs.Program.Bases.{AreColumns, IsBasis};
-ghost use Rattle.surface_rounds.specs.Choices.{chosen, columns_up, feed_part, feed_phase, IsOnePhase, IsSplitBy};
+ghost use Rattle.surface_rounds.specs.Choices.{chosen, columns_up, IsSplitBy};
 
 use crate::scans::Scanned;
-use arrayvec::ArrayVec;
-use case_types::{Case, Columns, Phase, SLOTS, Split};
+use case_types::{Case, Columns, Split};
 use exact_lp::{Basis, amounts, weights};
-use split_energies::energy_share;
+use split_energies::{energy_share, one_phase};
 
 /// Which split of the feed is chosen.
 #[derive(Clone, Copy, Debug, PartialEq, Eq)]
@@ -88,41 +87,5 @@ pub fn split_by(
     match choice {
         Choice::OnePhase => one_phase(case, alone.packing),
         Choice::OfBasis => amounts(case, columns, basis),
-    }
-}
-
-/// The whole feed in one phase, at a packing fraction in 2^-40.
-fn one_phase(case: &Case, packing: u64) -> Split
-    requires some { 1 ≤ packing }
-    requires inside { packing < 2 ^ 40 }
-    ensures { IsOnePhase case.now packing result }
-{
-    let mut phases: ArrayVec<Phase, SLOTS> = ArrayVec::new();
-    phases.push(feed_as_phase(case, packing));
-    Split {
-        sum: case.total as u128,
-        phases,
-    }
-}
-
-/// The feed as a phase, at a packing fraction in 2^-40.
-pub fn feed_as_phase(case: &Case, packing: u64) -> Phase
-    ensures { result ≡ feed_phase case.now packing }
-{
-    Phase {
-        parts: [part(case, 0), part(case, 1), part(case, 2), part(case, 3)],
-        packing,
-    }
-}
-
-/// The parts of a component in the feed, and none of one that isn't live.
-fn part(case: &Case, i: usize) -> u128
-    requires { i < 4 }
-    ensures { result ≡ feed_part case.now i }
-{
-    if i < case.n as usize {
-        case.z[i] as u128
-    } else {
-        0
     }
 }

@@ -6,7 +6,7 @@ ghost use Rattle.energy_surface.specs.Lawful.{IsLawful};
 ghost use Rattle.surface_rounds.specs.Room.{HasRoom};
 
 use crate::answers::answer_of;
-use crate::choices::{feed_as_phase, split_by};
+use crate::choices::split_by;
 use crate::pure_columns::keep_pure;
 use crate::scans::scan;
 use crate::stages::next_stage;
@@ -16,6 +16,7 @@ use case_types::{
 use density_boxes::phase_box;
 use energy_surface::{Found, Surface};
 use exact_lp::start;
+use split_energies::feed_as_phase;
 use std::alloc::Global;
 
 /// The flash of a case over its energy surface. All memory is taken before the first unit is spent.

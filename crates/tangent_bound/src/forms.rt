@@ -6,6 +6,7 @@ ghost use Rattle.log_laws.specs.LogE.{log_e_ends};
 ghost use Rattle.slope_form.specs.Forms.{form_if};
 ghost use Rattle.tangent_bound.specs.SlopeLows.{plus as plus_of, minus as minus_of, times as times_of, over as over_of, log_of_form};
 
+use log_enclose::Logarithms;
 use log_laws::{Iv, Slope};
 use slope_form::{add, div, log2, mul, sub};
 
@@ -38,9 +39,9 @@ pub fn over(f: Option<Slope>, g: Option<Slope>) -> Option<Slope>
 }
 
 /// The logarithm of a form, where it is there.
-pub fn log_by(e: Iv, f: Option<Slope>) -> Option<Slope>
+pub fn log_by(logs: Logarithms<'_>, e: Iv, f: Option<Slope>) -> Option<Slope>
     requires { ends_of e ≡ log_e_ends }
     ensures { form_if result ≡ log_of_form (ends_of e) (form_if f) }
 {
-    log2(f?, e)
+    log2(logs, f?, e)
 }

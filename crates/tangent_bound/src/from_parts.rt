@@ -11,24 +11,24 @@ ghost use Rattle.tangent_bound.specs.Parts.{IsMixLow};
 use crate::mixes::entropy;
 use crate::volumes::{falls_to, rises_from, volume, where_flat};
 use case_types::{BoxX, MixLow, PackingLogs};
-use log_enclose::log2_hi;
+use log_enclose::Logarithms;
 use pr_params::{Params, attraction_term_high, b_range, energy_of_terms, g_hi};
 
 /// What a lower bound of the energy has of the box.
-pub fn mix_low(params: &Params, x: &BoxX) -> MixLow
+pub fn mix_low(params: &Params, logs: Logarithms<'_>, x: &BoxX) -> MixLow
     ensures { IsMixLow (numbers_of params.now.case) (box_of x.now) result }
 {
     let b = b_range(params, x);
     let covolume = b.lo as u128;
     let flat = falls_to(params, covolume);
     MixLow {
-        mixing: entropy(params.case.n, x),
+        mixing: entropy(logs, params.case.n, x),
         covolume,
-        log_covolume: log_covolume(params, b.hi as u128),
+        log_covolume: log_covolume(params, logs, b.hi as u128),
         ratio: g_hi(params, x),
         flat,
         steep: rises_from(params, covolume),
-        volume_flat: where_flat(flat),
+        volume_flat: where_flat(logs, flat),
     }
 }
 
@@ -54,11 +54,11 @@ pub fn low_of_parts(params: &Params, mix: &MixLow, from: &PackingLogs, to: &Pack
 }
 
 /// The logarithm of a co-volume, at most.
-fn log_covolume(params: &Params, b: u128) -> i128
+fn log_covolume(params: &Params, logs: Logarithms<'_>, b: u128) -> i128
     requires low { 2 ^ 49 ≤ b }
     requires high { b ≤ 2 ^ 61 }
     ensures value { result ≡ log_up b (56 + (numbers_of params.now.case).lift) }
     ensures small { unsigned_abs result ≤ 2 ^ 47 }
 {
-    log2_hi(b, 56 + params.raised_by())
+    logs.upper(b, 56 + params.raised_by())
 }

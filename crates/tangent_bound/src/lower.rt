@@ -11,6 +11,7 @@ ghost use Rattle.case_types.specs.Arithmetic.Bounds.{box_of};
 
 use crate::from_parts::{low_of_parts, mix_low};
 use case_types::BoxX;
+use log_enclose::Logarithms;
 use pr_params::{Params, packing_logs};
 
 /// The energy at every composition of the box and every packing from `ylo` to `yhi` is at least this, in 2^-40 bit. The
@@ -30,10 +31,11 @@ pub fn low_energy(params: &Params, x: &BoxX, ylo: u64, yhi: u64) -> i128
         AtLeast (energy_of params.now.case roots f) (bits result) }
     ensures small { unsigned_abs result ≤ 2 ^ 106 }
 {
+    let logs = Logarithms::Anew;
     low_of_parts(
         params,
-        &mix_low(params, x),
-        &packing_logs(ylo),
-        &packing_logs(yhi),
+        &mix_low(params, logs, x),
+        &packing_logs(logs, ylo),
+        &packing_logs(logs, yhi),
     )
 }

@@ -15,6 +15,7 @@ ghost use Rattle.tangent_bound.specs.SlopeParts.{IsMixSlope, IsPackingSlope, mix
 use crate::forms::{minus, over, plus, times};
 use crate::slope_parts::{mix_slope, packing_slope};
 use case_types::{Cell, MixSlope, PackingSlope, Plane};
+use log_enclose::Logarithms;
 use log_laws::{Iv, Slope};
 use pr_params::Params;
 use slope_form::{constant, low};
@@ -36,8 +37,9 @@ pub fn low_slope(params: &Params, plane: &Plane, cell: &Cell) -> Option<i128>
         IfSome result (λ low. IsAbovePlane params.now.case.n (energy_of params.now.case roots) (potential plane.now.lam) low f) }
     ensures small { IfSome result (λ z. unsigned_abs z ≤ 2 ^ 107) }
 {
-    let packing = packing_slope(cell.ylo, cell.yhi)?;
-    let mix = mix_slope(params, plane, cell)?;
+    let logs = Logarithms::Anew;
+    let packing = packing_slope(logs, cell.ylo, cell.yhi)?;
+    let mix = mix_slope(params, logs, plane, cell)?;
     slope_of_parts(params, &mix, &packing)
 }
 

@@ -14,7 +14,7 @@ ghost use Rattle.tangent_bound.specs.SlopeParts.{AreFractions, entry};
 use crate::fractions::{Fractions, fraction_hi, fraction_lo};
 use crate::mix_forms::{Entries, NOTHING, mix_form, sum_of_all};
 use fix_interval::{cap, outward as rounded_outward};
-use log_enclose::log2e;
+use log_enclose::{Logarithms, log2e};
 use log_laws::{Iv, Slope};
 use pr_params::{Params, b_range, covolume_of};
 use slope_form::{product, xlogx};
@@ -40,14 +40,14 @@ pub fn outward(v: Iv, shift: u32) -> Iv
 }
 
 /// The sum of the mixing terms: the number of a component is the slope of its `x log x`.
-pub fn mixing_form(params: &Params, x: &Fractions) -> Option<Slope>
+pub fn mixing_form(params: &Params, logs: Logarithms<'_>, x: &Fractions) -> Option<Slope>
     ensures { (r : Region) → AreFractions (numbers_of params.now.case).count r x.now → form_if result ≡ mixing_form_of (numbers_of params.now.case) r }
 {
     let n = params.case.n;
-    let first = mixing(params, x, 0);
-    let second = mixing(params, x, 1);
-    let third = mixing(params, x, 2);
-    let fourth = mixing(params, x, 3);
+    let first = mixing(params, logs, x, 0);
+    let second = mixing(params, logs, x, 1);
+    let third = mixing(params, logs, x, 2);
+    let fourth = mixing(params, logs, x, 3);
     let values = [
         value_of(first),
         value_of(second),
@@ -64,13 +64,13 @@ pub fn mixing_form(params: &Params, x: &Fractions) -> Option<Slope>
 }
 
 /// `x log x` of the component `i`: its value in the middle and its slope.
-fn mixing(params: &Params, x: &Fractions, i: u8) -> Option<(Iv, Iv)>
+fn mixing(params: &Params, logs: Logarithms<'_>, x: &Fractions, i: u8) -> Option<(Iv, Iv)>
     requires { i < 4 }
     ensures { (r : Region) → i < params.now.case.n → AreFractions (numbers_of params.now.case).count r x.now → two_if result ≡ mixing_ends (numbers_of params.now.case) r i }
 {
     let a = fraction_lo(&x.ends, i);
     let b = fraction_hi(&x.ends, i);
-    xlogx(a, b, x.middle_of(i), log2e())
+    xlogx(logs, a, b, x.middle_of(i), log2e())
 }
 
 /// The value of a pair of value and slope.

@@ -17,7 +17,7 @@ use crate::slope_attractions::attraction_form;
 use crate::slope_means::{covolume_form, mixing_form};
 use crate::slope_planes::plane_form;
 use case_types::{Cell, MixSlope, PackingSlope, Plane};
-use log_enclose::log2e;
+use log_enclose::{Logarithms, log2e};
 use log_laws::{Iv, Slope};
 use pr_params::Params;
 use slope_form::constant;
@@ -35,7 +35,12 @@ const ROOT_TWO: Iv = Iv {
 };
 
 /// What slope lows over a cell have of its compositions and of the plane, where they have it.
-pub fn mix_slope(params: &Params, plane: &Plane, cell: &Cell) -> Option<MixSlope>
+pub fn mix_slope(
+    params: &Params,
+    logs: Logarithms<'_>,
+    plane: &Plane,
+    cell: &Cell,
+) -> Option<MixSlope>
     requires { IsFalse (misses params.now.case.n (region_of cell.now)) }
     ensures some { IfSome result (λ m. (r : Region) → r.lo ≡ cell.now.lo → r.hi ≡ cell.now.hi → IsMixSlope (numbers_of params.now.case) plane.now.lam r m) }
     ensures none { IfNone result ((r : Region) → r.lo ≡ cell.now.lo → r.hi ≡ cell.now.hi → slope_low (numbers_of params.now.case) plane.now.lam r ≡ None) }
@@ -44,12 +49,12 @@ pub fn mix_slope(params: &Params, plane: &Plane, cell: &Cell) -> Option<MixSlope
     if !has_each(params.case.n, &x) {
         return None;
     }
-    let mixing = mixing_form(params, &x)?;
+    let mixing = mixing_form(params, logs, &x)?;
     let lifted = covolume_form(params, &x, 16);
     let plain = covolume_form(params, &x, 16 + params.raised_by());
     mix_of(
         mixing,
-        log_by(log2e(), lifted),
+        log_by(logs, log2e(), lifted),
         over(attraction_form(params, &x), lifted),
         times(Some(constant(log2e())), plain),
         plane_form(params, plane, &x),
@@ -119,20 +124,20 @@ fn around(lo: u64, middle: u64, hi: u64) -> Iv
 }
 
 /// What slope lows have of the packing fractions from one to another, where they have it.
-pub fn packing_slope(from: u64, to: u64) -> Option<PackingSlope>
+pub fn packing_slope(logs: Logarithms<'_>, from: u64, to: u64) -> Option<PackingSlope>
     requires room { from < to }
     requires inside { to ≤ 2 ^ 40 }
     ensures some { IfSome result (λ s. (c : Case) → IsPackingSlope (numbers_of c) from to s) }
     ensures none { IfNone result ((c : Case) (lam : List ℤ) (r : Region) → r.ylo ≡ from → r.yhi ≡ to → slope_low (numbers_of c) lam r ≡ None) }
 {
     let y = packing_form(from, to);
-    let log_packing = log_by(log2e(), Some(y))?;
-    let log_rest = log_by(log2e(), minus(Some(constant(UNIT)), Some(y)))?;
+    let log_packing = log_by(logs, log2e(), Some(y))?;
+    let log_rest = log_by(logs, log2e(), minus(Some(constant(UNIT)), Some(y)))?;
     packing_of(
         y,
         log_packing,
         log_rest,
-        lambda(y),
+        lambda(logs, y),
         around(from, (from + to) / 2, to),
     )
 }
@@ -185,7 +190,7 @@ fn range(from: u64, to: u64) -> Iv
 }
 
 /// The logarithm of `1 + (1 + s) y` over `1 - (s - 1) y`, for the root s of 2.
-fn lambda(y: Slope) -> Option<Slope>
+fn lambda(logs: Logarithms<'_>, y: Slope) -> Option<Slope>
     ensures { (c : Case) → form_if result ≡ lambda_form (numbers_of c) (Some (form_of y)) }
 {
     let y = Some(y);
@@ -193,5 +198,5 @@ fn lambda(y: Slope) -> Option<Slope>
     let root = Some(constant(ROOT_TWO));
     let above = plus(one, times(plus(one, root), y));
     let below = minus(one, times(minus(root, one), y));
-    minus(log_by(log2e(), above), log_by(log2e(), below))
+    minus(log_by(logs, log2e(), above), log_by(logs, log2e(), below))
 }

@@ -3,7 +3,7 @@ use Rattle.std.proofs.lemmas.Int.{ints}
 use Rattle.log_laws.proofs.Exports.{back}
 use Rattle.helmholtz_density.proofs.Terms.{mixing_none, mixing_whole, mixing_some, ceiling_small}
 use Rattle.helmholtz_density.proofs.mixes.mixing.Goals as goal
-use Rattle.helmholtz_density.proofs.mixes.mixing.Goals.{After-log2_hi, then-b-eq0-via-then-b-eq0, then-b-eq0-via-else-b-eq0+then-b-eq-ONE}
+use Rattle.helmholtz_density.proofs.mixes.mixing.Goals.{After-upper, then-b-eq0-via-then-b-eq0, then-b-eq0-via-else-b-eq0+then-b-eq-ONE}
 
 pub returns-then-b-eq0-clause-value : goal.returns-then-b-eq0-clause-value
 returns-then-b-eq0-clause-value c =
@@ -13,21 +13,21 @@ returns-then-b-eq0-clause-value c =
     ]
 
 -- the logarithm of a fraction is small
-log_small : (c : After-log2_hi) → unsigned_abs c.log2_hi.result ≤ 2 ^ 46
+log_small : (c : After-upper) → unsigned_abs c.upper.result ≤ 2 ^ 46
 log_small c =
-    let p = c.log2_hi.ensures.from_power 0 (omega arith) in
-    let q = c.log2_hi.ensures.to_power 41 (omega arith) in
+    let p = c.upper.ensures.from_power 0 (omega arith) in
+    let q = c.upper.ensures.to_power 41 (omega arith) in
     omega (arith, ints, p, q)
 
 pub part-requires-clause-log : goal.part-requires-clause-log
-part-requires-clause-log c = let s = log_small c in rw (back c.log2_hi.result (omega (arith, s))) s
+part-requires-clause-log c = let s = log_small c in rw (back c.upper.result (omega (arith, s))) s
 
 pub returns-clause-value : goal.returns-clause-value
 returns-clause-value c =
-    let s = log_small (goal.at.returns-clause-value c).After-log2_hi in
+    let s = log_small (goal.at.returns-clause-value c).After-upper in
     let p = c.part.ensures.small in
     let q = c.ceiling.ensures.small in
-    let e = rw (back c.log2_hi.result (omega (arith, s)), c.log2_hi.ensures.value) at c.part.ensures.value in
+    let e = rw (back c.upper.result (omega (arith, s)), c.upper.ensures.value) at c.part.ensures.value in
     let f = rw (back c.part.result (omega (arith, p, c.requires.ordered, c.requires.inside)), e) at c.ceiling.ensures.value in
     back c.ceiling.result (omega (arith, q)) ∙ f ∙ sym (mixing_some c.args.a c.args.b c.if-b-eq0.false)
 

@@ -5,7 +5,7 @@ use Rattle.std.proofs.lemmas.Option.{get_or_from_slice_get}
 use Rattle.log_laws.proofs.Exports.{sum-none, sum-next, sum-read}
 use Rattle.case_types.specs.declared.rounds.Column.{Column}
 use Rattle.energy_surface.specs.Program.Bases.{no_column}
-use Rattle.surface_rounds.proofs.ChosenSplits.{share_same}
+use Rattle.split_energies.proofs.Exports.{share_same}
 use Rattle.surface_rounds.proofs.choices.basis_energy.Goals as goal
 
 pub loop-k-init : goal.loop-k-init

@@ -2,7 +2,7 @@ use Rattle.std.proofs.Common.{◌^◌, ap, ◌∙◌, arith}
 use Rattle.case_types.specs.declared.phases.Phase.{Phase}
 use Rattle.case_types.specs.Arithmetic.Bounds.{box_of_parts}
 use Rattle.case_types.proofs.Exports.{total_positive}
-use Rattle.surface_rounds.proofs.FeedPhase.{feed_parts_sum, feed_box_is}
+use Rattle.split_energies.proofs.Exports.{feed_parts_sum, feed_box_is}
 use Rattle.surface_rounds.proofs.flashing.feed_box.Goals as goal
 
 pub phase_box-requires-clause-some : goal.phase_box-requires-clause-some

@@ -10,7 +10,7 @@ use Rattle.case_types.specs.declared.phases.Phase.{Phase}
 use Rattle.case_types.specs.Arithmetic.Bounds.{one, share_down, share_up, box_of_parts}
 use Rattle.case_types.specs.Ranges.{are_parts}
 use Rattle.case_types.proofs.Exports.{box_same, total_positive}
-use Rattle.surface_rounds.specs.Choices.{feed_part, feed_phase}
+use Rattle.split_energies.specs.Feeds.{feed_part, feed_phase}
 
 -- ---- its parts
 pub feed_part_of : (c : Case) (y i : ℕ) → i < c.n → slice_index (feed_phase c y).parts i ≡ slice_index c.z i
