@@ -1,5 +1,5 @@
 -- The answer of a flash.
-use Rattle.std.proofs.Common.{◌≡◌, ℕ, ◌^◌, ◌≤◌, List, Some, ℤ, ◌-ℤ◌, to_z, of_z, FitsSigned, unsigned_abs, refl, ap, ◌∙◌, subst, arith}
+use Rattle.std.proofs.Common.{◌≡◌, ℕ, ◌^◌, ◌≤◌, List, Some, ℤ, ◌-ℤ◌, to_z, of_z, FitsSigned, unsigned_abs, refl, ap, ◌∙◌, subst, inl, inr, arith}
 use Rattle.std.specs.Int.{w128}
 use Rattle.std.proofs.lemmas.Int.{ints, fits_signed_from_abs}
 use Rattle.log_laws.specs.Whole.{floor_over}
@@ -27,7 +27,7 @@ use Rattle.surface_rounds.specs.declared.scans.Scanned.{Scanned}
 use Rattle.surface_rounds.specs.declared.stages.Stage.{Stage}
 use Rattle.surface_rounds.specs.Answering.{IsAnswerOf}
 use Rattle.surface_rounds.specs.Choices.{chosen, columns_up, IsSplitBy}
-use Rattle.surface_rounds.specs.Flashing.{IsAfterRounds, IsAfterRound}
+use Rattle.surface_rounds.specs.Flashing.{IsAfterRounds, IsAfterRound, IsStopped}
 use Rattle.surface_rounds.specs.Scanned.{IsScanned}
 use Rattle.surface_rounds.proofs.ChosenSplits.{split_by_divides, split_by_energy, split_by_small}
 use Rattle.surface_rounds.proofs.OnTheWay.{are_columns}
@@ -67,21 +67,37 @@ has_low (Spent low) not = refl
 has_low (Grain low cell) not = refl
 
 -- why the flash ended
-cause_of : (s : Surface) (tol budget : ℕ) (a : Answer) (found : Found) (units : Units) → outcome_of found ≡ Some a.outcome → low_of found ≡ Some a.low →
+after_search : (s : Surface) (tol budget : ℕ) (a : Answer) (found : Found) (units : Units) → outcome_of found ≡ Some a.outcome → low_of found ≡ Some a.low →
     IsFound (under s a.plane.lam (delta_of tol)) units found → a.units ≡ units.spent → units.budget ≡ budget → HasCause s tol budget a a.outcome
-cause_of s tol budget a (AllClear low) units o l is spent whole =
+after_search s tol budget a (AllClear low) units o l is spent whole =
     let ends : Outcomes.Closed ≡ a.outcome = cc in
     let same : low ≡ a.low = cc in
     subst (HasCause s tol budget a) ends (omega (arith, ints, same, is))
-cause_of s tol budget a (Refuted kept) units o l is spent whole = absurd (cc o)
-cause_of s tol budget a (Spent low) units o l is spent whole =
+after_search s tol budget a (Refuted kept) units o l is spent whole = absurd (cc o)
+after_search s tol budget a (Spent low) units o l is spent whole =
     let ends : Outcomes.Spent ≡ a.outcome = cc in
     let same : low ≡ a.low = cc in
-    subst (HasCause s tol budget a) ends (omega (arith, ints, same, is.0), spent ∙ is.1 ∙ whole)
-cause_of s tol budget a (Grain low cell) units o l is spent whole =
+    subst (HasCause s tol budget a) ends (inl (omega (arith, ints, same, is.0)), spent ∙ is.1 ∙ whole)
+after_search s tol budget a (Grain low cell) units o l is spent whole =
     let ends : Outcomes.Grain cell ≡ a.outcome = cc in
     let same : low ≡ a.low = cc in
     subst (HasCause s tol budget a) ends (omega (arith, ints, same, is.0), is.1)
+
+cause_of : (s : Surface) (tol budget : ℕ) (a : Answer) (found : Found) (units : Units) → outcome_of found ≡ Some a.outcome → low_of found ≡ Some a.low →
+    IsStopped s tol units a.plane found → a.units ≡ units.spent → units.budget ≡ budget → HasCause s tol budget a a.outcome
+cause_of s tol budget a found units o l is spent whole =
+    elim is [
+      | inl k ↦ after_search s tol budget a found units o l k spent whole
+      | inr k ↦
+          let ends : Outcomes.Spent ≡ a.outcome = unsearched _ k.0 in
+          subst (HasCause s tol budget a) ends (inr (low_there _ k.0), spent ∙ k.1 ∙ whole)
+    ]
+  where
+    unsearched : (low : ℤ) → found ≡ Spent low → Outcomes.Spent ≡ a.outcome
+    unsearched low e = let k : Some Outcomes.Spent ≡ Some a.outcome = rw e at o in cc
+
+    low_there : (low : ℤ) → found ≡ Spent low → a.low ≡ low
+    low_there low e = let k : Some low ≡ Some a.low = rw e at l in cc
 
 -- ---- the answer
 pub lawful : (s : Surface) (c : Case) (tol budget : ℕ) (units : Units) (w : Work) (at : List ℕ) (alone : Scanned) (stage : Stage) (split : Split) (a : Answer) → s.count ≡ c.n →

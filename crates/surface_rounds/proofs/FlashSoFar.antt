@@ -29,22 +29,25 @@ use Rattle.energy_surface.specs.Surfaces.{Surface, under, plain_low}
 use Rattle.energy_surface.proofs.Exports.{cuts_off}
 use Rattle.exact_lp.proofs.Exports.{fair, basis_kept, column_at-append}
 use Rattle.box_search.specs.Found.{units_of}
-use Rattle.surface_rounds.specs.Flashing.{AreKept, ArePure, IsFlashing, Pivoted}
+use Rattle.surface_rounds.specs.Flashing.{AreKept, IsFlashing, Pivoted}
 use Rattle.surface_rounds.specs.Noted.{MakesRound, columns_of, round_noted}
 use Rattle.surface_rounds.proofs.Growing.{GoesOn, range-seam, range-grows, range-none, length-range, get-seam, stays, one_more}
 use Rattle.surface_rounds.proofs.Pivoting.{pivots_append, places_stay}
 
 -- ---- before the first round
-pub flashing_begins : (s : Surface) (c : Case) (tol spent : ℕ) (w : Work) (at : List ℕ) → ArePure s c.n w.columns.items → w.pivots.items ≡ [] → w.letters.items ≡ [] → w.rounds.items ≡ [] →
+pub flashing_begins : (s : Surface) (c : Case) (tol spent candidates : ℕ) (w : Work) (at : List ℕ) → AreKept s c w.columns.items → candidates ≤ 32 →
+    length w.columns.items ≡ c.n + candidates → w.pivots.items ≡ [] → w.letters.items ≡ [] → w.rounds.items ≡ [] →
     spent ≡ 0 → at ≡ start_places → IsBasis c w.columns.items at → IsFlashing s c tol spent w at
 unfolding AreRefuted ArePivots
-flashing_begins s c tol spent w at pure ep el er none places basis = record {
-  kept = record { columns = pure.columns; enough = omega (arith, pure.counted); pure = pure.pure };
+flashing_begins s c tol spent candidates w at kept few counted ep el er none places basis = record {
+  kept = kept;
   places = rw places refl;
   basis = basis;
-  start = beginning c.n 0;
+  start = beginning c.n candidates;
+  candidates = candidates;
+  few_candidates = few;
   refuted = rw er refl;
-  all_columns = omega (arith, pure.counted);
+  all_columns = sym counted;
   all_letters = rw el refl;
   some_pivots = omega arith;
   pivots = rw ep (sym places);
@@ -75,7 +78,9 @@ flashing_pivots s c tol spent units now w pivots at to f p basis more =
       places = places_stay c w.columns.items at to p.own p.pivots f.places;
       basis = basis;
       start = f.start;
-      refuted = stays s c tol w (with_pivots w pivots) (beginning c.n 0) f.start w.rounds.items (more_pivots w pivots p.own p.pushed)
+      candidates = f.candidates;
+      few_candidates = f.few_candidates;
+      refuted = stays s c tol w (with_pivots w pivots) (beginning c.n f.candidates) f.start w.rounds.items (more_pivots w pivots p.own p.pushed)
           (omega (arith, f.all_columns)) f.some_pivots (omega (arith, f.all_letters)) f.refuted;
       all_columns = f.all_columns;
       all_letters = f.all_letters;
@@ -109,10 +114,10 @@ module _ (s : Surface) (c : Case) (tol spent : ℕ) (old new : Work) (at : List 
   }
 
   -- the rounds before it stay
-  before_too : AreRefuted s c tol new (beginning c.n 0) old.rounds.items h.flashing.start
+  before_too : AreRefuted s c tol new (beginning c.n h.flashing.candidates) old.rounds.items h.flashing.start
   before_too =
       let f = h.flashing in
-      stays s c tol old new (beginning c.n 0) f.start old.rounds.items goes_on (omega (arith, f.all_columns)) (omega (arith, f.some_pivots)) (omega (arith, f.all_letters)) f.refuted
+      stays s c tol old new (beginning c.n f.candidates) f.start old.rounds.items goes_on (omega (arith, f.all_columns)) (omega (arith, f.some_pivots)) (omega (arith, f.all_letters)) f.refuted
 
   pivots_same : new.pivots.items ≡ old.pivots.items
   pivots_same = ap (λ (x : Spared Pivot). x.items) h.went.pivots
@@ -169,8 +174,8 @@ module _ (s : Surface) (c : Case) (tol spent : ℕ) (old new : Work) (at : List 
         record {
           columns = rw columns_stay f.kept.columns;
           pure = rw columns_stay f.kept.pure;
-          candidates = 0;
-          few_candidates = omega arith;
+          candidates = f.candidates;
+          few_candidates = f.few_candidates;
           earlier = old.rounds.items;
           last = round_noted plane u old new.letters (round_end found);
           rounds = h.went.noted;
@@ -204,9 +209,9 @@ module _ (s : Surface) (c : Case) (tol spent : ℕ) (old new : Work) (at : List 
           pure = λ k l. rw (column_at-append old.columns.items kept k (omega (arith, l, f.kept.enough))) (f.kept.pure k l);
         }
 
-    refuted_too : AreRefuted s c tol new (beginning c.n 0) (old.rounds.items ++ round_noted plane u old new.letters (round_end found) ∷ []) (after (round_noted plane u old new.letters (round_end found)) at)
+    refuted_too : AreRefuted s c tol new (beginning c.n h.flashing.candidates) (old.rounds.items ++ round_noted plane u old new.letters (round_end found) ∷ []) (after (round_noted plane u old new.letters (round_end found)) at)
     refuted_too =
-        one_more s c tol new (beginning c.n 0) h.flashing.start old.rounds.items (round_noted plane u old new.letters (round_end found)) at kept before_too
+        one_more s c tol new (beginning c.n h.flashing.candidates) h.flashing.start old.rounds.items (round_noted plane u old new.letters (round_end found)) at kept before_too
         (subst (λ e. IsRound s c tol h.flashing.start (own_of new h.flashing.start (round_noted plane u old new.letters (round_end found))) (round_noted plane u old new.letters (round_end found)) at e) is round_went)
         (rw column_more (get-seam old.columns.items kept))
 
@@ -226,7 +231,9 @@ module _ (s : Surface) (c : Case) (tol spent : ℕ) (old new : Work) (at : List 
           places = f.places;
           basis = rw column_more (basis_kept c old.columns.items kept at f.basis);
           start = after (round_noted plane u old new.letters (round_end found)) at;
-          refuted = subst (λ rs. AreRefuted s c tol new (beginning c.n 0) rs (after (round_noted plane u old new.letters (round_end found)) at)) (sym h.went.noted) refuted_too;
+          candidates = f.candidates;
+          few_candidates = f.few_candidates;
+          refuted = subst (λ rs. AreRefuted s c tol new (beginning c.n h.flashing.candidates) rs (after (round_noted plane u old new.letters (round_end found)) at)) (sym h.went.noted) refuted_too;
           all_columns = sym n;
           all_letters = refl;
           some_pivots = rw pivots_same (omega arith);
@@ -268,13 +275,13 @@ cut_work s c tol spent old new at plane u low enter f wanted tangent near cut is
     record {
       columns = rw cut.columns f.kept.columns;
       pure = rw cut.columns f.kept.pure;
-      candidates = 0;
-      few_candidates = omega arith;
+      candidates = f.candidates;
+      few_candidates = f.few_candidates;
       earlier = old.rounds.items;
       last = r;
       rounds = cut.noted;
       start = f.start;
-      refuted = stays s c tol old new (beginning c.n 0) f.start old.rounds.items g (omega (arith, f.all_columns)) f.some_pivots (omega (arith, f.all_letters)) f.refuted;
+      refuted = stays s c tol old new (beginning c.n f.candidates) f.start old.rounds.items g (omega (arith, f.all_columns)) f.some_pivots (omega (arith, f.all_letters)) f.refuted;
       ends = rw own record {
         columns = sym f.all_columns;
         pivots_to = length-range old.pivots.items f.start.pivots (length old.pivots.items) f.some_pivots (omega arith);

@@ -4,6 +4,5 @@ pub mod PureColumns
 pub mod ChosenSplits
 pub mod Pivoting
 pub mod FlashSoFar
-pub mod FirstPlane
 pub mod OnTheWay
 pub mod Answered

@@ -1,5 +1,5 @@
 -- A round from its pivots to its end.
-use Rattle.std.proofs.Common.{◌≡◌, ℕ, ◌+◌, ◌-◌, ◌^◌, ◌<◌, ◌≤◌, length, Option, Some, None, List, ℤ, pos, neg_ℤ, ◌+ℤ◌, ◌≤ℤ◌, ◌<ℤ◌, unsigned_abs, subst, arith, length-append}
+use Rattle.std.proofs.Common.{◌≡◌, ℕ, ◌+◌, ◌-◌, ◌^◌, ◌<◌, ◌≤◌, length, Option, Some, None, List, ℤ, pos, ◌+ℤ◌, ◌≤ℤ◌, unsigned_abs, subst, ap, inl, inr, arith, length-append}
 use Rattle.std.specs.List.{All}
 use Rattle.std.proofs.lemmas.Int.{ints}
 use Rattle.std.proofs.lemmas.List.Elements.{All-weaker}
@@ -34,8 +34,7 @@ use Rattle.surface_rounds.specs.Noted.{MakesRound}
 use Rattle.surface_rounds.specs.Room.{HasRoom, IsCounted}
 use Rattle.surface_rounds.specs.Scanned.{IsScanned}
 use Rattle.surface_rounds.proofs.ChosenSplits.{columns_up_is, chosen_near}
-use Rattle.surface_rounds.proofs.FirstPlane.{open_where_one_enters, open_on}
-use Rattle.surface_rounds.proofs.FlashSoFar.{with_pivots, flashing_pivots, Searched, columns_stay, searched_work, column_more, flashing_on, CutsShort, cut_work}
+use Rattle.surface_rounds.proofs.FlashSoFar.{with_pivots, flashing_pivots, Searched, columns_stay, searched_work, flashing_on, CutsShort, cut_work}
 
 -- ---- columns
 pub are_columns : (s : Surface) (c : Case) (cols : List Column) → s.count ≡ c.n → length cols < 2 ^ 32 → AreKept s c cols → AreColumns c.n cols
@@ -109,9 +108,6 @@ module _ (s : Surface) (c : Case) (tol : ℕ) (alone : Scanned) (units mid : Uni
       }
 
   -- ---- no unit is left for a pivot
-  pub open_at_first : (enter : ℕ) → IsEntering c.n w.columns.items to enter → plain_low s (plane_of c.n w.columns.items start_places) (root_region s.count) <ℤ neg_ℤ (delta_of tol)
-  open_at_first enter wanted = open_where_one_enters s c tol w.columns.items at to h.pivoted.own enter good h.between.begun h.pivoted.pivots wanted
-
   pub after_cut : (new : Work) (plane : Plane) (low : ℤ) (enter : ℕ) → IsEntering c.n w.columns.items to enter → plane.lam ≡ plane_of c.n w.columns.items start_places →
       CutsShort plane x.u (with_pivots w pivots) new → low ≡ plain_low s plane.lam (root_region s.count) → mid.spent ≡ mid.budget →
       IsAfterRounds s c tol mid new to alone.up (record { chosen = x; plane = plane; found = Spent low })
@@ -121,7 +117,7 @@ module _ (s : Surface) (c : Case) (tol : ℕ) (alone : Scanned) (units mid : Uni
     few = rw cut.columns (few_columns units w h.between.counted);
     choice = rw cut.columns h.choice;
     work = cut_work s c tol mid.spent (with_pivots w pivots) new to plane x.u low enter flashing wanted tangent near_scan cut is;
-    found = (rw (is, tangent) (open_at_first enter wanted), full);
+    found = inr (ap Spent is, full);
     over = λ z e. leaf_over s plane.lam z (root_region s.count) (let same : low ≡ z = cc in rw (← same, is) (omega (arith, ints)));
   }
 
@@ -143,16 +139,14 @@ module _ (s : Surface) (c : Case) (tol : ℕ) (alone : Scanned) (units mid : Uni
           few = rw stay (few_columns units w h.between.counted);
           choice = rw stay h.choice;
           work = searched_work s c tol mid.spent (with_pivots w pivots) new to plane x.u (now.spent - mid.spent) found searched low ends now.spent units_now;
-          found = is;
+          found = inl is;
           over = λ z e. over_whole s plane.lam (low_of found) z went.searched.searched.tree e went.searched.searched.low;
         }
 
-    pub after_refuted : (kept : Column) → found ≡ Refuted kept → plain_low s plane.lam (root_region s.count) <ℤ neg_ℤ (delta_of tol) →
+    pub after_refuted : (kept : Column) → found ≡ Refuted kept →
         HasRoom (now.budget - now.spent) new → IsCounted now.spent new → IsBetweenRounds s c tol now new to
-    after_refuted kept e low room counted = record {
+    after_refuted kept e room counted = record {
       flashing = flashing_on s c tol mid.spent (with_pivots w pivots) new to plane x.u (now.spent - mid.spent) found searched kept e now.spent units_now;
-      begun = open_on s c tol w.columns.items new.columns.items kept plane.lam at to h.pivoted.own good h.between.begun h.pivoted.pivots tangent low
-          (column_more s c tol mid.spent (with_pivots w pivots) new to plane x.u (now.spent - mid.spent) found searched kept e);
       room = room;
       counted = counted;
     }

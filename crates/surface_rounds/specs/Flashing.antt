@@ -1,9 +1,10 @@
 -- A flash between its rounds, and what a round leaves.
-use Rattle.std.specs.Prelude.{ℕ, ◌≡◌, ◌+◌, ◌-◌, ◌^◌, ◌<◌, ◌≤◌, ◌⊎◌, List, ◌++◌, length, All, Some, slice_range, ℤ, neg_ℤ, ◌<ℤ◌}
+use Rattle.std.specs.Prelude.{ℕ, ◌≡◌, ◌+◌, ◌-◌, ◌^◌, ◌<◌, ◌≤◌, ◌⊎◌, List, ◌++◌, length, All, Some, slice_range, ℤ}
 use Rattle.case_types.specs.Spared.{Spared}
 use Rattle.case_types.specs.declared.answers.Work.{Work}
 use Rattle.case_types.specs.declared.cases.Case.{Case}
 use Rattle.case_types.specs.declared.pivots.Pivot.{Pivot}
+use Rattle.case_types.specs.declared.planes.Plane.{Plane}
 use Rattle.case_types.specs.declared.rounds.Column.{Column}
 use Rattle.case_types.specs.declared.units.Units.{Units}
 use Rattle.case_types.specs.Grid.Cells.{root_region}
@@ -13,9 +14,8 @@ use Rattle.energy_surface.specs.declared.found.Found.TheVariants.{AllClear, Refu
 use Rattle.energy_surface.specs.Columns.{IsColumn}
 use Rattle.energy_surface.specs.Lawful.{IsPureColumn, IsListOfWork, beginning}
 use Rattle.energy_surface.specs.Outcomes.{delta_of}
-use Rattle.energy_surface.specs.Program.Bases.{column_at, start_places, IsBasis}
+use Rattle.energy_surface.specs.Program.Bases.{column_at, IsBasis}
 use Rattle.energy_surface.specs.Program.Pivots.{ArePivots}
-use Rattle.energy_surface.specs.Program.Planes.{plane_of}
 use Rattle.energy_surface.specs.Rounds.{Start, AreRefuted, slack_of}
 use Rattle.energy_surface.specs.Searches.{low_of}
 use Rattle.energy_surface.specs.Surfaces.{Surface, under, plain_low, IsOver}
@@ -24,7 +24,7 @@ use Rattle.surface_rounds.specs.declared.stages.Stage.{Stage}
 use Rattle.surface_rounds.specs.Choices.{chosen, columns_up}
 use Rattle.surface_rounds.specs.Room.{HasRoom, IsCounted}
 
--- the columns of a flash: those of the pure components, and one for each plane that was cut off
+-- the columns of a flash: those of the pure components, candidates, and one for each plane that was cut off
 pub record AreKept (s : Surface) (c : Case) (cols : List Column) : Type 0 where
   pub columns : All (λ (col : Column). IsColumn s col) cols
   pub enough : c.n ≤ length cols
@@ -42,7 +42,9 @@ pub record IsFlashing (s : Surface) (c : Case) (tol spent : ℕ) (w : Work) (at 
   pub places : length at ≡ 4
   pub basis : IsBasis c w.columns.items at
   pub start : Start
-  pub refuted : AreRefuted s c tol w (beginning c.n 0) w.rounds.items start
+  pub candidates : ℕ
+  pub few_candidates : candidates ≤ 32
+  pub refuted : AreRefuted s c tol w (beginning c.n candidates) w.rounds.items start
   pub all_columns : start.columns ≡ length w.columns.items
   pub all_letters : start.letters ≡ length w.letters.items
   pub some_pivots : start.pivots ≤ length w.pivots.items
@@ -57,17 +59,17 @@ pub record Pivoted (c : Case) (cols : List Column) (from to : List ℕ) (old new
   pub room : new.spare + units ≡ old.spare
   pub pivots : ArePivots c cols from own to
 
--- the pure columns alone are there, and the basis is theirs; or their plane leaves the whole domain open
-abbrev pub IsBegun : Surface → Case → ℕ → List Column → List ℕ → Type 0
-IsBegun s c tol cols at =
-    ((length cols ≡ c.n) × (at ≡ start_places)) ⊎ (plain_low s (plane_of c.n cols start_places) (root_region s.count) <ℤ neg_ℤ (delta_of tol))
-
 -- before a round
 pub record IsBetweenRounds (s : Surface) (c : Case) (tol : ℕ) (units : Units) (w : Work) (at : List ℕ) : Type 0 where
   pub flashing : IsFlashing s c tol units.spent w at
-  pub begun : IsBegun s c tol w.columns.items at
   pub room : HasRoom (units.budget - units.spent) w
   pub counted : IsCounted units.spent w
+
+-- a search ended so; or no unit was left for a pivot, and the plane wasn't searched
+abbrev pub IsStopped : Surface → ℕ → Units → Plane → Found → Type 0
+IsStopped s tol units plane found =
+    IsFound (under s plane.lam (delta_of tol)) units found
+    ⊎ ((found ≡ Spent (plain_low s plane.lam (root_region s.count))) × (units.spent ≡ units.budget))
 
 -- after the last one, where the state of one phase of least energy in the scan has the energy `alone`
 pub record IsAfterRounds (s : Surface) (c : Case) (tol : ℕ) (units : Units) (w : Work) (at : List ℕ) (alone : ℤ) (stage : Stage) : Type 0 where
@@ -76,7 +78,7 @@ pub record IsAfterRounds (s : Surface) (c : Case) (tol : ℕ) (units : Units) (w
   pub few : length w.columns.items < 2 ^ 32
   pub choice : stage.chosen ≡ chosen alone (columns_up c w.columns.items at) (slack_of tol)
   pub work : IsListOfWork s c tol units.spent w at stage.plane stage.chosen.u stage.found
-  pub found : IsFound (under s stage.plane.lam (delta_of tol)) units stage.found
+  pub found : IsStopped s tol units stage.plane stage.found
   pub over : (low : ℤ) → low_of stage.found ≡ Some low → IsOver s stage.plane.lam low (root_region s.count)
 
 -- a round of this end leaves the one or the other

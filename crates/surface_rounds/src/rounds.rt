@@ -5,7 +5,7 @@ ghost use Rattle.case_types.specs.declared.rounds.RoundEnd.TheVariants.{Spent};
 ghost use Rattle.energy_surface.specs.Rounds.{round_end};
 ghost use Rattle.energy_surface.specs.Searches.{low_of};
 ghost use Rattle.energy_surface.specs.Surfaces.{under};
-ghost use Rattle.box_search.specs.Found.{IsFound, IsRootOpen, units_of};
+ghost use Rattle.box_search.specs.Found.{IsFound, units_of};
 ghost use Rattle.surface_rounds.specs.Noted.{MakesRound, columns_of, round_noted};
 ghost use Rattle.surface_rounds.specs.Room.{HasRoom, IsCounted};
 
@@ -30,7 +30,6 @@ pub fn round<S: Surface>(
     requires counted { IsCounted units.old.spent work.old }
     ensures makes { MakesRound (under (S.bounds surface.now) plane.now.lam delta) plane.now u work.old work.new (units.new.spent - units.old.spent) result }
     ensures found { IsFound (under (S.bounds surface.now) plane.now.lam delta) units.new result }
-    ensures root { IsRootOpen (under (S.bounds surface.now) plane.now.lam delta) result }
     ensures small { IfSome (low_of result) (λ low. unsigned_abs low ≤ 2 ^ 107) }
     ensures budget { units.new.budget ≡ units.old.budget }
     ensures spent { units.old.spent + units_of result ≤ units.new.spent }

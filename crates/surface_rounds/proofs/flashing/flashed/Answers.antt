@@ -1,8 +1,8 @@
-use Rattle.std.proofs.Common.{◌≡◌, length, ap, ◌∙◌, sym, subst, inl, arith}
+use Rattle.std.proofs.Common.{◌≡◌, length, ap, ◌∙◌, sym, subst, arith}
 use Rattle.case_types.specs.Arithmetic.Bounds.{box_of_parts}
 use Rattle.energy_surface.specs.Program.Bases.{AreColumns}
 use Rattle.box_search.specs.Found.{units_of}
-use Rattle.surface_rounds.specs.Flashing.{ArePure, IsAfterRounds}
+use Rattle.surface_rounds.specs.Flashing.{ArePure, AreKept, IsAfterRounds}
 use Rattle.surface_rounds.specs.Scanned.{IsScanned}
 use Rattle.surface_rounds.proofs.Answered.{is_last, has_low, lawful}
 use Rattle.surface_rounds.proofs.FlashSoFar.{flashing_begins}
@@ -16,10 +16,13 @@ module _ (g : _) (c : After-start-basis g) where
   pure : ArePure (g.S.Surface.bounds c.args.surface.now) c.args.case.now.n c.keep_pure.new.columns.items
   pure = subst (λ n. ArePure (g.S.Surface.bounds c.args.surface.now) n c.keep_pure.new.columns.items) (sym c.requires.components) c.keep_pure.ensures.pure
 
+  kept : AreKept (g.S.Surface.bounds c.args.surface.now) c.args.case.now c.keep_pure.new.columns.items
+  kept = record { columns = pure.columns; enough = omega (arith, pure.counted); pure = pure.pure }
+
   columns : AreColumns c.args.case.now.n c.keep_pure.new.columns.items
   columns =
       are_columns (g.S.Surface.bounds c.args.surface.now) c.args.case.now c.keep_pure.new.columns.items (sym c.requires.components) (omega (arith, pure.counted, c.args.case.now.few))
-      (record { columns = pure.columns; enough = omega (arith, pure.counted); pure = pure.pure })
+      kept
 
 pub loop-work-init : goal.loop-work-init
 loop-work-init g c =
@@ -33,10 +36,9 @@ loop-work-init g c =
     let nothing : length c.in_ok-work.work.letters.items ≡ 0 = ap length work.letters in
     record {
       between = record {
-        flashing = flashing_begins s case c.args.tol c.new-units.result.spent
+        flashing = flashing_begins s case c.args.tol c.new-units.result.spent 0
             (record { columns = c.keep_pure.new.columns; pivots = c.in_ok-work.work.pivots; letters = c.in_ok-work.work.letters; rounds = c.in_ok-work.work.rounds })
-            c.start-basis.result.at only work.pivots work.letters work.rounds units.spent start.places (start.basis c.keep_pure.new.columns.items (columns g c));
-        begun = inl (only.counted, start.places);
+            c.start-basis.result.at (kept g c) (omega arith) (omega (arith, only.counted)) work.pivots work.letters work.rounds units.spent start.places (start.basis c.keep_pure.new.columns.items (columns g c));
         room = record {
           columns = omega (arith, c.keep_pure.ensures.room, work.column, units.budget, c.requires.components, case.few);
           pivots = omega (arith, work.room.pivots, units.budget, units.spent);

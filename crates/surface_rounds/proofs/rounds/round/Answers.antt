@@ -9,11 +9,6 @@ returns-clause-found g c =
     let delta = back c.args.delta (omega (arith, ints, c.requires.delta_low, c.requires.delta_high)) in
     rw delta at c.search-found.ensures.found
 
-pub returns-clause-root : goal.returns-clause-root
-returns-clause-root g c =
-    let delta = back c.args.delta (omega (arith, ints, c.requires.delta_low, c.requires.delta_high)) in
-    rw delta at c.search-found.ensures.root
-
 pub returns-clause-makes : goal.returns-clause-makes
 returns-clause-makes g c =
     let delta = back c.args.delta (omega (arith, ints, c.requires.delta_low, c.requires.delta_high)) in

@@ -14,7 +14,7 @@ use Rattle.energy_surface.specs.Program.Pivots.{IsPriced, IsEntering, IsOptimal}
 use Rattle.energy_surface.specs.Program.Planes.{plane_of}
 use Rattle.energy_surface.specs.Searches.{low_of}
 use Rattle.energy_surface.specs.Surfaces.{under}
-use Rattle.box_search.specs.Found.{IsFound, IsRootOpen, units_of}
+use Rattle.box_search.specs.Found.{IsFound, units_of}
 use Rattle.surface_rounds.specs.Flashing.{IsBetweenRounds, IsAfterRounds, IsAfterRound}
 use Rattle.surface_rounds.specs.Noted.{MakesRound}
 use Rattle.surface_rounds.proofs.FlashSoFar.{with_pivots}
@@ -125,9 +125,6 @@ module _ (g : _) (c : After-round-found g) where
   is : IsFound (under (g.S.Surface.bounds c.args.surface.now) c.plane-plane-2.result.lam (delta_of c.args.tol)) c.round-found.new.units c.round-found.result
   is = rw delta at c.round-found.ensures.found
 
-  root : IsRootOpen (under (g.S.Surface.bounds c.args.surface.now) c.plane-plane-2.result.lam (delta_of c.args.tol)) c.round-found.result
-  root = rw delta at c.round-found.ensures.root
-
   later : c.optimize-wanted.new.units.spent ≤ c.round-found.new.units.spent
   later = omega (arith, c.round-found.ensures.spent)
 
@@ -147,7 +144,7 @@ module _ (g : _) (c : After-round-found g) where
       let more = c.round-found.ensures.more (ap units_of e) in
       after_refuted (g.S.Surface.bounds c.args.surface.now) c.args.case.now c.args.tol c.args.alone.now c.args.units.now o.new.units c.args.work.now o.new.pivots c.args.basis.now.at o.new.basis.at
       c.choose-chosen.result (way g (goal.at.returns-clause-after g c).After-choose-chosen) c.round-found.new.units c.round-found.new.work c.plane-plane-2.result c.round-found.result
-      optimal c.plane-plane-2.ensures went later is kept e (rw e at root) more.0 more.1
+      optimal c.plane-plane-2.ensures went later is kept e more.0 more.1
 
   by_end : (r : Found) → c.round-found.result ≡ r →
       IsAfterRound (g.S.Surface.bounds c.args.surface.now) c.args.case.now c.args.tol c.round-found.new.units c.round-found.new.work c.optimize-wanted.new.basis.at c.args.alone.now.up

@@ -1,0 +1,3 @@
+pub mod Excess
+pub mod MiddleEnds
+pub mod Roots

@@ -1,0 +1,2 @@
+pub mod Pressures
+pub mod Middles

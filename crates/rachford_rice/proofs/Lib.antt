@@ -1,0 +1,3 @@
+mod Ratios
+mod Falling
+mod Alone
