@@ -17,7 +17,6 @@ pub mod StartBasis
 pub mod SplitOfBasis
 pub mod WeightsOfBasis
 pub mod PivotSequences
-pub mod PlanesKept
 pub mod PlanesUnderCosts
 pub mod KeptColumns
 pub mod ColumnPhases

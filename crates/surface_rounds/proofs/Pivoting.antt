@@ -1,14 +1,12 @@
 -- Pivots in a row, as the list of pivots has them.
-use Rattle.std.proofs.Common.{◌≡◌, ℕ, ◌+◌, ◌≤ℤ◌, ◌<ℤ◌, ℤ, pos, List, [], ◌∷◌, ◌++◌, length, refl, sym, ap, ◌∙◌, arith, length-append}
+use Rattle.std.proofs.Common.{◌≡◌, ℕ, ◌+◌, List, [], ◌∷◌, ◌++◌, length, refl, sym, ap, ◌∙◌, arith, length-append}
 use Rattle.std.specs.Prelude.{slice_set}
-use Rattle.std.proofs.lemmas.Int.{ints}
 use Rattle.std.proofs.lemmas.List.{append-nil, append_assoc, length-set}
 use Rattle.case_types.specs.Spared.{Spared}
 use Rattle.case_types.specs.declared.cases.Case.{Case}
 use Rattle.case_types.specs.declared.pivots.Pivot.{Pivot}
 use Rattle.case_types.specs.declared.rounds.Column.{Column}
-use Rattle.energy_surface.specs.Program.Bases.{column_at}
-use Rattle.energy_surface.specs.Program.Pivots.{IsEntering, IsLeaving, IsOptimal, ArePivots, price_of}
+use Rattle.energy_surface.specs.Program.Pivots.{IsEntering, IsLeaving, ArePivots}
 use Rattle.exact_lp.proofs.Exports.{pivots-push}
 use Rattle.surface_rounds.specs.Flashing.{Pivoted}
 
@@ -38,12 +36,3 @@ pub places_stay : (c : Case) (cols : List Column) (from to : List ℕ) (vs : Lis
 unfolding ArePivots
 places_stay c cols from to [] h four = rw (← h) four
 places_stay c cols from to (v ∷ vs) h four = places_stay c cols (slice_set from v.leave v.enter) to vs h.2 (length-set from v.leave v.enter ∙ four)
-
--- at an optimum no pivot is made
-pub none_at_optimum : (c : Case) (cols : List Column) (from to : List ℕ) (vs : List Pivot) → IsOptimal c.n cols from → ArePivots c cols from vs to → (vs ≡ []) × (from ≡ to)
-unfolding ArePivots
-none_at_optimum c cols from to [] best h = (refl, h)
-none_at_optimum c cols from to (v ∷ vs) best h = absurd (not_both (price_of c.n cols from (column_at cols v.enter)) (best v.enter h.0.inside) h.0.cheaper)
-  where
-    not_both : (z : ℤ) → pos 0 ≤ℤ z → z <ℤ pos 0 → ⊥
-    not_both z h k = omega (arith, ints, h, k)
