@@ -1,0 +1,9 @@
+pub mod Ranges
+pub mod NearParts
+pub mod Greatest
+pub mod GridSums
+pub mod FeedParts
+pub mod TwoPhases
+pub mod Ratios
+pub mod Phases
+pub mod NearColumns
