@@ -435,3 +435,19 @@ fn kappa_by_edition(rt: HostRuntime) -> Result<(), Fail> {
     }
     Ok(())
 }
+
+/// Temperatures in mK with the two ends of RT, in 2^-20 mJ.
+const THERMAL_ENERGIES: [(u32, Ends); 4] = [
+    (50_000, [435_917_297_714, 435_917_297_715]),
+    (298_150, [2_599_374_846_272, 2_599_374_846_273]),
+    (300_000, [2_615_503_786_287, 2_615_503_786_288]),
+    (1_500_000, [13_077_518_931_438, 13_077_518_931_439]),
+];
+
+#[test]
+fn gas_constant_times_temperature(rt: HostRuntime) -> Result<(), Fail> {
+    for (t, wanted) in THERMAL_ENERGIES {
+        assert_eq!(rt; ends(pr_params::rt(t)), wanted);
+    }
+    Ok(())
+}

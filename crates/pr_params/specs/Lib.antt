@@ -3,3 +3,4 @@ pub mod Packings
 pub mod Kept
 pub mod Entries
 pub mod Rounding
+pub mod Thermal

@@ -26,6 +26,7 @@ mod pulls;
 mod ranges;
 mod readers;
 mod terms;
+mod thermal;
 
 pub use alphas::kappa;
 pub use constants::{LOG_E_HI, LOG_E_LO};
@@ -37,3 +38,4 @@ pub use pulls::{attraction_term_high, attraction_term_low};
 pub use ranges::{attraction_range, b_range, g_hi, g_lo};
 pub use readers::{attraction_of, covolume_of};
 pub use terms::energy_of_terms;
+pub use thermal::rt;
