@@ -8,6 +8,7 @@ ghost use Rattle.case_types.specs.Energy.Printed.{enclosures_in};
 ghost use Rattle.energy_surface.specs.Lawful.{IsLawful};
 ghost use Rattle.pr_surface.specs.PengRobinson.{surface_of};
 
+use crate::guesses::NearFlash;
 use case_types::{Answer, Memory};
 use log_enclose::{LogStore, Logarithms};
 use pr_params::Params;
@@ -38,5 +39,6 @@ pub fn flash_tp(alloc: Global, params: &Params, tol: u32, budget: u32) -> Result
     let store = LogStore::new();
     let logs = Logarithms::Kept(&store);
     let surface = PengRobinson { params, logs };
-    flashed(alloc, &surface, &params.case, tol, budget)
+    let guide = NearFlash { surface };
+    flashed(alloc, &surface, &guide, &params.case, tol, budget)
 }

@@ -3,6 +3,7 @@
 
 mod case_flash;
 mod flash;
+mod guesses;
 #[cfg(test)]
 mod samples;
 #[cfg(test)]

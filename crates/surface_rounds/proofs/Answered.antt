@@ -1,5 +1,5 @@
 -- The answer of a flash.
-use Rattle.std.proofs.Common.{◌≡◌, ℕ, ◌^◌, ◌≤◌, List, Some, ℤ, ◌-ℤ◌, to_z, of_z, FitsSigned, unsigned_abs, refl, ap, ◌∙◌, subst, inl, inr, arith}
+use Rattle.std.proofs.Common.{◌≡◌, ℕ, ◌^◌, ◌≤◌, List, Some, ℤ, ◌-ℤ◌, to_z, of_z, FitsSigned, unsigned_abs, refl, ◌∙◌, subst, inl, inr, arith}
 use Rattle.std.specs.Int.{w128}
 use Rattle.std.proofs.lemmas.Int.{ints, fits_signed_from_abs}
 use Rattle.log_laws.specs.Whole.{floor_over}
@@ -12,26 +12,22 @@ use Rattle.case_types.specs.declared.cases.Case.{Case}
 use Rattle.case_types.specs.declared.phases.Split.{Split}
 use Rattle.case_types.specs.declared.rounds.Column.{Column}
 use Rattle.case_types.specs.declared.units.Units.{Units}
-use Rattle.case_types.specs.Arithmetic.Bounds.{box_of_parts, plane_at, plane_times}
-use Rattle.case_types.specs.Arithmetic.Splits.{split_up}
+use Rattle.case_types.specs.Arithmetic.Bounds.{plane_at, plane_times}
 use Rattle.energy_surface.specs.declared.found.Found.{Found}
 use Rattle.energy_surface.specs.declared.found.Found.TheVariants.{AllClear, Refuted, Spent, Grain}
 use Rattle.energy_surface.specs.Lawful.{IsLawful}
 use Rattle.energy_surface.specs.Outcomes.{HasCause, delta_of, outcome_of}
-use Rattle.energy_surface.specs.Rounds.{slack_of}
 use Rattle.energy_surface.specs.Searches.{low_of}
 use Rattle.energy_surface.specs.Surfaces.{Surface, under}
 use Rattle.box_search.specs.Found.{IsFound}
-use Rattle.surface_rounds.specs.declared.choices.Chosen.{Chosen}
-use Rattle.surface_rounds.specs.declared.scans.Scanned.{Scanned}
+use Rattle.surface_rounds.specs.declared.splits.Rival.{Rival}
 use Rattle.surface_rounds.specs.declared.stages.Stage.{Stage}
 use Rattle.surface_rounds.specs.Answering.{IsAnswerOf}
-use Rattle.surface_rounds.specs.Choices.{chosen, columns_up, IsSplitBy}
+use Rattle.surface_rounds.specs.Choices.{IsSplitBy}
 use Rattle.surface_rounds.specs.Flashing.{IsAfterRounds, IsAfterRound, IsStopped}
-use Rattle.surface_rounds.specs.Scanned.{IsScanned}
-use Rattle.surface_rounds.proofs.ChosenSplits.{split_by_divides, split_by_energy, split_by_small}
+use Rattle.surface_rounds.specs.Rivals.{AreRivals}
+use Rattle.surface_rounds.proofs.ChosenSplits.{split_by_guess, split_by_energy}
 use Rattle.surface_rounds.proofs.OnTheWay.{are_columns}
-use Rattle.surface_rounds.proofs.ScanSteps.{scan_inside}
 
 pub plane_at_feed : (c : Case) (lam : List ℤ) (sum result : ℤ) → sum ≡ plane_times c.n lam c.z → result ≡ floor_over sum c.total → result ≡ plane_at c.n lam c.z c.total
 unfolding plane_at
@@ -53,12 +49,12 @@ gap_read u at low h k l =
 
 -- ---- the last round
 -- a round that does not cut its plane off is the last one
-pub is_last : (s : Surface) (c : Case) (tol : ℕ) (units : Units) (w : Work) (at : List ℕ) (alone : ℤ) (stage : Stage) (found : Found) → ((kept : Column) → found ≡ Refuted kept → ⊥) →
-    IsAfterRound s c tol units w at alone stage found → IsAfterRounds s c tol units w at alone stage
-is_last s c tol units w at alone stage (AllClear low) not after = after
-is_last s c tol units w at alone stage (Refuted kept) not after = absurd (not kept refl)
-is_last s c tol units w at alone stage (Spent low) not after = after
-is_last s c tol units w at alone stage (Grain low cell) not after = after
+pub is_last : (s : Surface) (c : Case) (tol : ℕ) (units : Units) (w : Work) (at : List ℕ) (rivals : List Rival) (stage : Stage) (found : Found) → ((kept : Column) → found ≡ Refuted kept → ⊥) →
+    IsAfterRound s c tol units w at rivals stage found → IsAfterRounds s c tol units w at rivals stage
+is_last s c tol units w at rivals stage (AllClear low) not after = after
+is_last s c tol units w at rivals stage (Refuted kept) not after = absurd (not kept refl)
+is_last s c tol units w at rivals stage (Spent low) not after = after
+is_last s c tol units w at rivals stage (Grain low cell) not after = after
 
 pub has_low : (found : Found) → ((kept : Column) → found ≡ Refuted kept → ⊥) → IsSome (low_of found)
 has_low (AllClear low) not = refl
@@ -100,22 +96,17 @@ cause_of s tol budget a found units o l is spent whole =
     low_there low e = let k : Some low ≡ Some a.low = rw e at l in cc
 
 -- ---- the answer
-pub lawful : (s : Surface) (c : Case) (tol budget : ℕ) (units : Units) (w : Work) (at : List ℕ) (alone : Scanned) (stage : Stage) (split : Split) (a : Answer) → s.count ≡ c.n →
-    IsScanned s (box_of_parts c.n c.z) alone → IsAfterRounds s c tol units w at alone.up stage → IsSplitBy c w.columns.items at alone.packing stage.chosen.choice split →
+pub lawful : (s : Surface) (c : Case) (tol budget : ℕ) (units : Units) (w : Work) (at : List ℕ) (rivals : List Rival) (stage : Stage) (split : Split) (a : Answer) → s.count ≡ c.n →
+    AreRivals s c rivals → IsAfterRounds s c tol units w at rivals stage → IsSplitBy c w.columns.items at rivals stage.chosen.choice split →
     IsAnswerOf c split stage units.spent w a → units.budget ≡ budget → IsLawful s c tol budget a
-lawful s c tol budget units w at alone stage split a count scanned after by is whole =
+lawful s c tol budget units w at rivals stage split a count are after by is whole =
     let good = are_columns s c w.columns.items count after.few after.kept in
-    let packed = scan_inside s (box_of_parts c.n c.z) alone scanned in
-    let choice : stage.chosen ≡ chosen alone.up (columns_up c w.columns.items at) (slack_of tol) = after.choice in
-    let chose : IsSplitBy c w.columns.items at alone.packing (chosen alone.up (columns_up c w.columns.items at) (slack_of tol)).choice split =
-    subst (λ (x : Chosen). IsSplitBy c w.columns.items at alone.packing x.choice split) choice by in
-    let up : stage.chosen.u ≡ split_up s.count s.up split =
-    ap (λ (x : Chosen). x.u) choice
-    ∙ split_by_energy s c w.columns.items at alone.packing alone.up (slack_of tol) split count after.basis after.kept.columns (scan_up alone scanned) chose in
+    let guess = split_by_guess s c w.columns.items at rivals count after.basis after.kept.columns are.each stage.chosen.choice split good after.choice.place by in
+    let up = after.choice.energy ∙ split_by_energy s c w.columns.items at rivals count after.basis after.kept.columns are.each stage.chosen.choice split after.choice.place by in
     record {
       answer = record {
         components = count;
-        divides = rw is.split (split_by_divides c w.columns.items at alone.packing stage.chosen.choice split good after.basis packed.0 packed.1 by);
+        divides = rw is.split guess.divides;
         upper = rw is.split (is.u ∙ up);
         gap = is.gap;
         low = rw is.plane (after.over a.low is.low);
@@ -127,8 +118,5 @@ lawful s c tol budget units w at alone stage split a count scanned after by is w
       work = rw (is.units, is.work, is.plane, is.u) after.work;
       outcome = is.outcome;
       low = is.low;
-      phases = rw is.split (split_by_small s c w.columns.items at alone.packing alone.up stage.chosen.choice split count after.basis after.kept.columns (scan_up alone scanned) scanned.small by);
+      phases = rw is.split guess.shallow;
     }
-  where
-    scan_up : (alone : Scanned) → IsScanned s (box_of_parts c.n c.z) alone → alone.up ≡ s.up (box_of_parts c.n c.z) alone.packing
-    scan_up alone h = h.up

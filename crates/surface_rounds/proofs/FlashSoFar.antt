@@ -1,8 +1,10 @@
 -- A flash so far, and what pivots and rounds make of it.
-use Rattle.std.proofs.Common.{◌≡◌, ℕ, ◌+◌, ◌≤◌, List, [], ◌∷◌, ◌++◌, length, Some, ℤ, ◌+ℤ◌, ◌≤ℤ◌, refl, sym, ap, ◌∙◌, inl, inr, subst, arith, length-append}
+use Rattle.std.proofs.Common.{◌≡◌, ℕ, ◌+◌, ◌<◌, ◌≤◌, List, [], ◌∷◌, ◌++◌, length, Some, ℤ, ◌+ℤ◌, ◌≤ℤ◌, refl, sym, ap, ◌∙◌, inl, inr, subst, arith, length-append}
 use Rattle.std.specs.Prelude.{slice_range}
 use Rattle.std.proofs.lemmas.List.{append-nil}
-use Rattle.std.proofs.lemmas.List.Elements.{All-push}
+use Rattle.std.specs.Prelude.{All}
+use Rattle.std.proofs.lemmas.List.Elements.{All-push, All-append}
+use Rattle.std.proofs.Math.ListN.{get_or-append}
 use Rattle.std.proofs.Math.Seq.{take-append_seam, take-length}
 use Rattle.case_types.specs.Spared.{Spared}
 use Rattle.case_types.specs.declared.answers.Work.{Work}
@@ -20,7 +22,7 @@ use Rattle.energy_surface.specs.declared.found.Found.TheVariants.{AllClear, Refu
 use Rattle.energy_surface.specs.Columns.{IsColumn}
 use Rattle.energy_surface.specs.Lawful.{IsListOfWork, beginning}
 use Rattle.energy_surface.specs.Outcomes.{delta_of}
-use Rattle.energy_surface.specs.Program.Bases.{start_places, IsBasis}
+use Rattle.energy_surface.specs.Program.Bases.{no_column, column_at, start_places, IsBasis}
 use Rattle.energy_surface.specs.Program.Pivots.{IsEntering, IsOptimal, ArePivots}
 use Rattle.energy_surface.specs.Program.Planes.{plane_of}
 use Rattle.energy_surface.specs.Rounds.{Start, own_of, round_end, slack_of, basis_up, IsNearScan, IsRound, AreRefuted, after}
@@ -29,12 +31,22 @@ use Rattle.energy_surface.specs.Surfaces.{Surface, under, plain_low}
 use Rattle.energy_surface.proofs.Exports.{cuts_off}
 use Rattle.exact_lp.proofs.Exports.{fair, basis_kept, column_at-append}
 use Rattle.box_search.specs.Found.{units_of}
-use Rattle.surface_rounds.specs.Flashing.{AreKept, IsFlashing, Pivoted}
+use Rattle.surface_rounds.specs.Flashing.{AreKept, ArePure, IsFlashing, Pivoted}
 use Rattle.surface_rounds.specs.Noted.{MakesRound, columns_of, round_noted}
 use Rattle.surface_rounds.proofs.Growing.{GoesOn, range-seam, range-grows, range-none, length-range, get-seam, stays, one_more}
 use Rattle.surface_rounds.proofs.Pivoting.{pivots_append, places_stay}
 
 -- ---- before the first round
+pub kept_begin : (s : Surface) (c : Case) (pure guessed : List Column) → ArePure s c.n pure → All (IsColumn s) guessed → AreKept s c (pure ++ guessed)
+kept_begin s c pure guessed are good = record {
+  columns = All-append (λ (col : Column). IsColumn s col) pure guessed are.columns good;
+  enough = rw length-append (omega (arith, are.counted));
+  pure = λ k h. rw (column_there pure guessed k (omega (arith, h, are.counted))) (are.pure k h);
+}
+  where
+    column_there : (xs ys : List Column) (k : ℕ) → k < length xs → column_at (xs ++ ys) k ≡ column_at xs k
+    column_there xs ys k h = get_or-append xs ys no_column k h
+
 pub flashing_begins : (s : Surface) (c : Case) (tol spent candidates : ℕ) (w : Work) (at : List ℕ) → AreKept s c w.columns.items → candidates ≤ 32 →
     length w.columns.items ≡ c.n + candidates → w.pivots.items ≡ [] → w.letters.items ≡ [] → w.rounds.items ≡ [] →
     spent ≡ 0 → at ≡ start_places → IsBasis c w.columns.items at → IsFlashing s c tol spent w at

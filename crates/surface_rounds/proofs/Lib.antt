@@ -1,8 +1,11 @@
 pub mod Growing
+pub mod Choosing
 pub mod ScanSteps
+pub mod FirstSplits
 pub mod PureColumns
 pub mod ChosenSplits
 pub mod Pivoting
+pub mod Polishing
 pub mod FlashSoFar
 pub mod OnTheWay
 pub mod Answered

@@ -1,5 +1,5 @@
 -- A round from its pivots to its end.
-use Rattle.std.proofs.Common.{◌≡◌, ℕ, ◌+◌, ◌-◌, ◌^◌, ◌<◌, ◌≤◌, length, Option, Some, None, List, ℤ, pos, ◌+ℤ◌, ◌≤ℤ◌, unsigned_abs, subst, ap, inl, inr, arith, length-append}
+use Rattle.std.proofs.Common.{◌≡◌, ℕ, ◌+◌, ◌-◌, ◌^◌, ◌<◌, ◌≤◌, length, Option, Some, None, List, ℤ, ◌+ℤ◌, ◌≤ℤ◌, unsigned_abs, subst, ap, inl, inr, arith, length-append}
 use Rattle.std.specs.List.{All}
 use Rattle.std.proofs.lemmas.Int.{ints}
 use Rattle.std.proofs.lemmas.List.Elements.{All-weaker}
@@ -10,7 +10,6 @@ use Rattle.case_types.specs.declared.pivots.Pivot.{Pivot}
 use Rattle.case_types.specs.declared.planes.Plane.{Plane}
 use Rattle.case_types.specs.declared.rounds.Column.{Column}
 use Rattle.case_types.specs.declared.units.Units.{Units}
-use Rattle.case_types.specs.Arithmetic.Bounds.{box_of_parts}
 use Rattle.case_types.specs.Grid.Cells.{Tree, visits, root_region}
 use Rattle.energy_surface.specs.declared.found.Found.{Found}
 use Rattle.energy_surface.specs.declared.found.Found.TheVariants.{Refuted, Spent}
@@ -20,20 +19,20 @@ use Rattle.energy_surface.specs.Program.Bases.{start_places, AreColumns, IsBasis
 use Rattle.energy_surface.specs.Program.Pivots.{IsEntering, IsOptimal}
 use Rattle.energy_surface.specs.Program.Planes.{plane_of}
 use Rattle.energy_surface.specs.Rounds.{slack_of, basis_up, IsNearScan}
-use Rattle.energy_surface.specs.Scans.{scan_packing}
+use Rattle.energy_surface.specs.Scans.{scan_packing, one_phase_up}
 use Rattle.energy_surface.specs.Searches.{HasLeastLow, low_of}
 use Rattle.energy_surface.specs.Surfaces.{Surface, under, plain_low, IsOver}
 use Rattle.energy_surface.proofs.Exports.{tree_over, leaf_over}
 use Rattle.exact_lp.proofs.Exports.{columns_kept}
 use Rattle.box_search.specs.Found.{IsFound}
 use Rattle.surface_rounds.specs.declared.choices.Chosen.{Chosen}
-use Rattle.surface_rounds.specs.declared.scans.Scanned.{Scanned}
-use Rattle.surface_rounds.specs.Choices.{chosen, columns_up}
+use Rattle.surface_rounds.specs.declared.splits.Rival.{Rival}
+use Rattle.surface_rounds.specs.Choices.{columns_up, IsChosen}
 use Rattle.surface_rounds.specs.Flashing.{AreKept, IsFlashing, IsBetweenRounds, IsAfterRounds, Pivoted}
 use Rattle.surface_rounds.specs.Noted.{MakesRound}
 use Rattle.surface_rounds.specs.Room.{HasRoom, IsCounted}
-use Rattle.surface_rounds.specs.Scanned.{IsScanned}
-use Rattle.surface_rounds.proofs.ChosenSplits.{columns_up_is, chosen_near}
+use Rattle.surface_rounds.specs.Rivals.{energy_at, AreRivals}
+use Rattle.surface_rounds.proofs.ChosenSplits.{columns_up_is}
 use Rattle.surface_rounds.proofs.FlashSoFar.{with_pivots, flashing_pivots, Searched, columns_stay, searched_work, flashing_on, CutsShort, cut_work}
 
 -- ---- columns
@@ -55,34 +54,29 @@ over_whole s lam (Some x) low tree e is =
     subst (λ z. IsOver s lam z (root_region s.count)) same (record { tree = tree; over = tree_over s lam x tree (root_region s.count) is.over })
 
 -- ---- what is in hand after the pivots of a round
-pub record OnTheWay (s : Surface) (c : Case) (tol : ℕ) (alone : Scanned) (units mid : Units) (w : Work) (pivots : Spared Pivot) (at to : List ℕ) (x : Chosen) : Type 0 where
+pub record OnTheWay (s : Surface) (c : Case) (tol : ℕ) (rivals : List Rival) (units mid : Units) (w : Work) (pivots : Spared Pivot) (at to : List ℕ) (x : Chosen) : Type 0 where
   pub count : s.count ≡ c.n
   pub fine : 128 ≤ tol
-  pub scanned : IsScanned s (box_of_parts c.n c.z) alone
+  pub standing : AreRivals s c rivals
   pub between : IsBetweenRounds s c tol units w at
   pub pivoted : Pivoted c w.columns.items at to w.pivots pivots (mid.spent - units.spent)
   pub basis : IsBasis c w.columns.items to
   pub spent : units.spent ≤ mid.spent
   pub budget : mid.budget ≡ units.budget
-  pub choice : x ≡ chosen alone.up (columns_up c w.columns.items to) (slack_of tol)
+  pub choice : IsChosen rivals (columns_up c w.columns.items to) (slack_of tol) x
 
-module _ (s : Surface) (c : Case) (tol : ℕ) (alone : Scanned) (units mid : Units) (w : Work) (pivots : Spared Pivot) (at to : List ℕ) (x : Chosen) (h : OnTheWay s c tol alone units mid w pivots at to x) where
+module _ (s : Surface) (c : Case) (tol : ℕ) (rivals : List Rival) (units mid : Units) (w : Work) (pivots : Spared Pivot) (at to : List ℕ) (x : Chosen) (h : OnTheWay s c tol rivals units mid w pivots at to x) where
   pub good : AreColumns c.n w.columns.items
   good = are_columns s c w.columns.items h.count (few_columns units w h.between.counted) h.between.flashing.kept
 
   flashing : IsFlashing s c tol mid.spent (with_pivots w pivots) to
   flashing = flashing_pivots s c tol units.spent (mid.spent - units.spent) mid.spent w pivots at to h.between.flashing h.pivoted h.basis (omega (arith, h.spent))
 
-  slack_there : pos 0 ≤ℤ slack_of tol
-  slack_there = omega (arith, ints)
-
-  near : (x.u ≤ℤ (basis_up s c w.columns.items to +ℤ slack_of tol)) × (x.u ≤ℤ (alone.up +ℤ slack_of tol))
-  near =
-      let both = chosen_near alone.up (columns_up c w.columns.items to) (slack_of tol) slack_there in
-      rw h.choice (subst (λ z. (chosen alone.up (columns_up c w.columns.items to) (slack_of tol)).u ≤ℤ (z +ℤ slack_of tol)) (columns_up_is s c w.columns.items to h.count h.basis h.between.flashing.kept.columns) both.0, both.1)
+  near_basis : x.u ≤ℤ (basis_up s c w.columns.items to +ℤ slack_of tol)
+  near_basis = subst (λ z. x.u ≤ℤ (z +ℤ slack_of tol)) (columns_up_is s c w.columns.items to h.count h.basis h.between.flashing.kept.columns) h.choice.near.of_basis
 
   near_scan : IsNearScan s c tol x.u
-  near_scan k l = below x.u alone.up (s.up (box_of_parts s.count c.z) (scan_packing k)) (slack_of tol) near.1 (rw h.count (h.scanned.least k l))
+  near_scan k l = below x.u (energy_at rivals 0) (one_phase_up s c (scan_packing k)) (slack_of tol) (h.choice.near.rival 0 h.standing.some) (h.standing.scanned k l)
     where
       below : (u a b z : ℤ) → u ≤ℤ (a +ℤ z) → a ≤ℤ b → u ≤ℤ (b +ℤ z)
       below u a b z h k = omega (arith, ints, h, k)
@@ -110,7 +104,7 @@ module _ (s : Surface) (c : Case) (tol : ℕ) (alone : Scanned) (units mid : Uni
   -- ---- no unit is left for a pivot
   pub after_cut : (new : Work) (plane : Plane) (low : ℤ) (enter : ℕ) → IsEntering c.n w.columns.items to enter → plane.lam ≡ plane_of c.n w.columns.items start_places →
       CutsShort plane x.u (with_pivots w pivots) new → low ≡ plain_low s plane.lam (root_region s.count) → mid.spent ≡ mid.budget →
-      IsAfterRounds s c tol mid new to alone.up (record { chosen = x; plane = plane; found = Spent low })
+      IsAfterRounds s c tol mid new to rivals (record { chosen = x; plane = plane; found = Spent low })
   after_cut new plane low enter wanted tangent cut is full = record {
     kept = rw cut.columns h.between.flashing.kept;
     basis = rw cut.columns h.basis;
@@ -125,12 +119,12 @@ module _ (s : Surface) (c : Case) (tol : ℕ) (alone : Scanned) (units mid : Uni
   module _ (now : Units) (new : Work) (plane : Plane) (found : Found) (optimal : IsOptimal c.n w.columns.items to) (tangent : plane.lam ≡ plane_of c.n w.columns.items to)
       (went : MakesRound (under s plane.lam (delta_of tol)) plane x.u (with_pivots w pivots) new (now.spent - mid.spent) found) (more : mid.spent ≤ now.spent) (is : IsFound (under s plane.lam (delta_of tol)) now found) where
     searched : Searched s c tol mid.spent (with_pivots w pivots) new to plane x.u (now.spent - mid.spent) found
-    searched = record { count = h.count; fine = h.fine; flashing = flashing; optimal = optimal; tangent = tangent; near_scan = near_scan; near_basis = near.0; went = went }
+    searched = record { count = h.count; fine = h.fine; flashing = flashing; optimal = optimal; tangent = tangent; near_scan = near_scan; near_basis = near_basis; went = went }
 
     units_now : now.spent ≡ mid.spent + (now.spent - mid.spent)
     units_now = omega (arith, more)
 
-    pub after_end : (low : ℤ) → low_of found ≡ Some low → IsAfterRounds s c tol now new to alone.up (record { chosen = x; plane = plane; found = found })
+    pub after_end : (low : ℤ) → low_of found ≡ Some low → IsAfterRounds s c tol now new to rivals (record { chosen = x; plane = plane; found = found })
     after_end low ends =
         let stay = columns_stay s c tol mid.spent (with_pivots w pivots) new to plane x.u (now.spent - mid.spent) found searched low ends in
         record {

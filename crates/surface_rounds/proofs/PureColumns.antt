@@ -1,22 +1,24 @@
 -- The grid points and the columns of components alone.
-use Rattle.std.proofs.Common.{◌≡◌, ℕ, zero, suc, ◌+◌, ◌^◌, ◌<◌, false, List, [], ◌∷◌, ◌++◌, length, inl, inr, slice_index, refl, ap, sym, arith, length-append}
+use Rattle.std.proofs.Common.{◌≡◌, ℕ, zero, suc, ◌+◌, ◌^◌, ◌<◌, false, List, [], ◌∷◌, ◌++◌, length, inl, inr, slice_index, ℤ, ◌≤ℤ◌, refl, ap, sym, ◌∙◌, arith, length-append}
 use Rattle.std.specs.Prelude.{◌≢◌, nat_eq}
+use Rattle.std.proofs.lemmas.Int.{ints}
 use Rattle.std.proofs.lemmas.Bool.{cases_lt}
 use Rattle.std.proofs.lemmas.Bool.Decides.{nat_tests}
 use Rattle.std.proofs.lemmas.List.Elements.{All-append, All-cons, All-nil}
 use Rattle.log_laws.specs.Sums.{sum_below}
 use Rattle.case_types.specs.declared.rounds.Column.{Column}
 use Rattle.case_types.specs.Arithmetic.Bounds.{Box}
-use Rattle.case_types.specs.Grid.Columns.{IsGridPoint}
-use Rattle.energy_surface.specs.Columns.{IsColumn}
+use Rattle.case_types.specs.Grid.Columns.{IsGridPoint, point_box}
+use Rattle.energy_surface.specs.Columns.{IsColumn, point_up}
 use Rattle.energy_surface.specs.Lawful.{pure_composition, IsPureColumn}
 use Rattle.energy_surface.specs.Program.Bases.{column_at}
 use Rattle.energy_surface.specs.Surfaces.{Surface}
 use Rattle.exact_lp.proofs.Exports.{column_at-append}
 use Rattle.surface_rounds.specs.declared.scans.Scanned.{Scanned}
 use Rattle.surface_rounds.specs.Flashing.{ArePure}
-use Rattle.surface_rounds.specs.Scanned.{IsScannedBelow}
-use Rattle.surface_rounds.proofs.ScanSteps.{scan_inside}
+use Rattle.surface_rounds.specs.Guessing.{IsInside}
+use Rattle.surface_rounds.specs.Scanned.{state_at}
+use Rattle.surface_rounds.proofs.ScanSteps.{IsLowest}
 
 -- ---- a sum of one number
 nothing : (n : ℕ) (f : ℕ → ℕ) → ((i : ℕ) → i < n → f i ≡ 0) → sum_below n f ≡ 0
@@ -57,13 +59,27 @@ nothing_else k (suc (suc (suc (suc i)))) h = refl
 pub pure_whole : (n k : ℕ) → k < n → k < 4 → sum_below n (slice_index (pure_composition k)) ≡ 2 ^ 20
 pure_whole n k h four = single n k (2 ^ 20) (slice_index (pure_composition k)) h (alone_there k four) (nothing_else k)
 
-pub pure_point : (s : Surface) (k : ℕ) (comp : List ℕ) (x : Box) (found : Scanned) → k < s.count → k < 4 → comp ≡ pure_composition k → IsScannedBelow s x 64 found →
-    IsGridPoint s.count (record { composition = comp; packing = found.packing })
-pure_point s k comp x found live four e so = record {
+pub pure_point : (s : Surface) (k : ℕ) (comp : List ℕ) (y : ℕ) → k < s.count → k < 4 → comp ≡ pure_composition k → IsInside y →
+    IsGridPoint s.count (record { composition = comp; packing = y })
+pure_point s k comp y live four e inside = record {
   whole = rw e (pure_whole s.count k live four);
   rest = λ i h. rw e (nothing_else k i (λ d. absurd (omega (arith, live, h, d))));
-  not_empty = (scan_inside s x found so).0;
-  not_full = (scan_inside s x found so).1;
+  not_empty = inside.some;
+  not_full = inside.less;
+}
+
+through : (a b c d : ℤ) → a ≡ b → b ≤ℤ c → c ≡ d → a ≤ℤ d
+through a b c d h k l = omega (arith, ints, h, k, l)
+
+-- its column lies no higher than at half the densest packing
+pub pure_lies : (s : Surface) (k : ℕ) (comp : List ℕ) (x : Box) (half found : Scanned) (col : Column) → comp ≡ pure_composition k → x ≡ point_box comp →
+    half ≡ state_at s x (2 ^ 39) → IsLowest s x half found → IsColumn s col → col.comp ≡ comp → col.packing ≡ found.packing → IsPureColumn s k col
+pure_lies s k comp x half found col alone box last low is at packed = record {
+  alone = at ∙ alone;
+  no_higher = through col.up found.up half.up (point_up s (record { composition = pure_composition k; packing = 2 ^ 39 }))
+      (is.up ∙ ap (λ (p : List ℕ). s.up (point_box p) col.packing) at ∙ ap (λ (y : ℕ). s.up (point_box comp) y) packed ∙ ap (λ (b : Box). s.up b found.packing) (sym box) ∙ sym low.up)
+      low.no_higher
+      (ap (λ (f : Scanned). f.up) last ∙ ap (λ (b : Box). s.up b (2 ^ 39)) box ∙ ap (λ (p : List ℕ). s.up (point_box p) (2 ^ 39)) alone);
 }
 
 -- ---- one pure column more

@@ -21,7 +21,8 @@ use Rattle.energy_surface.specs.Searches.{low_of}
 use Rattle.energy_surface.specs.Surfaces.{Surface, under, plain_low, IsOver}
 use Rattle.box_search.specs.Found.{IsFound}
 use Rattle.surface_rounds.specs.declared.stages.Stage.{Stage}
-use Rattle.surface_rounds.specs.Choices.{chosen, columns_up}
+use Rattle.surface_rounds.specs.declared.splits.Rival.{Rival}
+use Rattle.surface_rounds.specs.Choices.{columns_up, IsChosen}
 use Rattle.surface_rounds.specs.Room.{HasRoom, IsCounted}
 
 -- the columns of a flash: those of the pure components, candidates, and one for each plane that was cut off
@@ -71,19 +72,19 @@ IsStopped s tol units plane found =
     IsFound (under s plane.lam (delta_of tol)) units found
     ⊎ ((found ≡ Spent (plain_low s plane.lam (root_region s.count))) × (units.spent ≡ units.budget))
 
--- after the last one, where the state of one phase of least energy in the scan has the energy `alone`
-pub record IsAfterRounds (s : Surface) (c : Case) (tol : ℕ) (units : Units) (w : Work) (at : List ℕ) (alone : ℤ) (stage : Stage) : Type 0 where
+-- after the last one
+pub record IsAfterRounds (s : Surface) (c : Case) (tol : ℕ) (units : Units) (w : Work) (at : List ℕ) (rivals : List Rival) (stage : Stage) : Type 0 where
   pub kept : AreKept s c w.columns.items
   pub basis : IsBasis c w.columns.items at
   pub few : length w.columns.items < 2 ^ 32
-  pub choice : stage.chosen ≡ chosen alone (columns_up c w.columns.items at) (slack_of tol)
+  pub choice : IsChosen rivals (columns_up c w.columns.items at) (slack_of tol) stage.chosen
   pub work : IsListOfWork s c tol units.spent w at stage.plane stage.chosen.u stage.found
   pub found : IsStopped s tol units stage.plane stage.found
   pub over : (low : ℤ) → low_of stage.found ≡ Some low → IsOver s stage.plane.lam low (root_region s.count)
 
 -- a round of this end leaves the one or the other
-abbrev pub IsAfterRound : Surface → Case → ℕ → Units → Work → List ℕ → ℤ → Stage → Found → Type 0
-IsAfterRound s c tol units w at alone stage (AllClear low) = IsAfterRounds s c tol units w at alone stage
-IsAfterRound s c tol units w at alone stage (Refuted kept) = IsBetweenRounds s c tol units w at
-IsAfterRound s c tol units w at alone stage (Spent low) = IsAfterRounds s c tol units w at alone stage
-IsAfterRound s c tol units w at alone stage (Grain low cell) = IsAfterRounds s c tol units w at alone stage
+abbrev pub IsAfterRound : Surface → Case → ℕ → Units → Work → List ℕ → List Rival → Stage → Found → Type 0
+IsAfterRound s c tol units w at rivals stage (AllClear low) = IsAfterRounds s c tol units w at rivals stage
+IsAfterRound s c tol units w at rivals stage (Refuted kept) = IsBetweenRounds s c tol units w at
+IsAfterRound s c tol units w at rivals stage (Spent low) = IsAfterRounds s c tol units w at rivals stage
+IsAfterRound s c tol units w at rivals stage (Grain low cell) = IsAfterRounds s c tol units w at rivals stage

@@ -1,6 +1,9 @@
 pub mod Room
 pub mod Noted
 pub mod Scanned
+pub mod Guessing
+pub mod Rivals
 pub mod Choices
+pub mod Polished
 pub mod Flashing
 pub mod Answering

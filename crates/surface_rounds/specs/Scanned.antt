@@ -1,5 +1,5 @@
--- What a scan of states of one phase finds.
-use Rattle.std.specs.Prelude.{ℕ, ◌^◌, ◌<◌, ◌≡◌, ◌≤ℤ◌, ◌<ℤ◌, unsigned_abs}
+-- States of one phase, and which of them has the least energy.
+use Rattle.std.specs.Prelude.{ℕ, ◌^◌, ◌<◌, ◌≡◌, List, [], ◌∷◌, if◌then◌else◌, int_le, ◌≤ℤ◌, ◌<ℤ◌, unsigned_abs}
 use Rattle.case_types.specs.Arithmetic.Bounds.{Box}
 use Rattle.energy_surface.specs.Scans.{scan_packing}
 use Rattle.energy_surface.specs.Surfaces.{Surface}
@@ -18,3 +18,16 @@ pub record IsScannedBelow (s : Surface) (x : Box) (limit : ℕ) (found : Scanned
 -- of all 64
 abbrev pub IsScanned : Surface → Box → Scanned → Type 0
 IsScanned s x found = IsScannedBelow s x 64 found
+
+-- a packing fraction with the upper energy over the box there
+abbrev pub state_at : Surface → Box → ℕ → Scanned
+state_at s x y = record { packing = y; up = s.up x y }
+
+-- the first of equals
+abbrev pub lower_of : Scanned → Scanned → Scanned
+lower_of a b = if int_le a.up b.up then a else b
+
+-- the first state of least energy, of those at some packing fractions and of a last one
+unfoldable pub lowest_of : Surface → Box → List ℕ → Scanned → Scanned
+lowest_of s x [] last = last
+lowest_of s x (y ∷ ys) last = lower_of (state_at s x y) (lowest_of s x ys last)

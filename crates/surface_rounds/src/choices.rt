@@ -1,20 +1,23 @@
 //! The split that a round chooses.
 
-ghost use Rattle.std.specs.Prelude.{◌≡◌, ◌≤◌, ◌<◌, ◌*◌, ◌^◌, length, pos, ◌≤ℤ◌, unsigned_abs, All};
+ghost use Rattle.std.specs.Prelude.{ℕ, ◌≡◌, ◌≤◌, ◌<◌, ◌*◌, ◌^◌, ◌⊎◌, length, pos, ◌≤ℤ◌, ◌<ℤ◌, unsigned_abs, All, IfSome, IfNone, slice_get};
 ghost use Rattle.case_types.specs.declared.rounds.Column.{Column};
 ghost use Rattle.energy_surface.specs.Program.Bases.{AreColumns, IsBasis};
-ghost use Rattle.surface_rounds.specs.Choices.{chosen, columns_up, IsSplitBy};
+ghost use Rattle.surface_rounds.specs.Choices.{columns_up, IsLeast, IsChosen, IsSplitBy, IsPlace};
+ghost use Rattle.surface_rounds.specs.Rivals.{energy_at};
 
-use crate::scans::Scanned;
+use crate::rivals::RIVALS;
+use crate::splits::Rival;
+use arrayvec::ArrayVec;
 use case_types::{Case, Columns, Split};
 use exact_lp::{Basis, amounts, weights};
-use split_energies::{energy_share, one_phase};
+use split_energies::energy_share;
 
 /// Which split of the feed is chosen.
 #[derive(Clone, Copy, Debug, PartialEq, Eq)]
 pub enum Choice {
-    /// All of it in one phase, at the packing fraction of the scan.
-    OnePhase,
+    /// The rival at a place.
+    Rival(usize),
     /// The split of the basis.
     OfBasis,
 }
@@ -27,30 +30,75 @@ pub struct Chosen {
     pub u: i128,
 }
 
-/// The first of the one-phase split and the split of the basis whose upper energy lies above the lesser one of the two by no
-/// more than the slack, in 2^-40 bit.
-pub fn choose(case: &Case, columns: &Columns, basis: &Basis, alone: &Scanned, slack: i128) -> Chosen
+/// The first of the rivals, and last of all the split of the basis, whose upper energy lies above the least one by no more than
+/// the slack, in 2^-40 bit.
+pub fn choose(
+    case: &Case,
+    columns: &Columns,
+    basis: &Basis,
+    rivals: &ArrayVec<Rival, RIVALS>,
+    slack: i128,
+) -> Chosen
     requires columns { AreColumns case.now.n columns.now.items }
     requires ups { All (λ (col : Column). unsigned_abs col.up < 2 ^ 49) columns.now.items }
     requires basis { IsBasis case.now columns.now.items basis.now.at }
-    requires alone { unsigned_abs alone.now.up < 2 ^ 49 }
     requires slack_low { pos 0 ≤ℤ slack }
     requires slack_high { slack ≤ℤ pos (2 ^ 34) }
-    ensures chosen { result ≡ chosen alone.now.up (columns_up case.now columns.now.items basis.now.at) slack }
+    ensures chosen { IsChosen rivals.now.items (columns_up case.now columns.now.items basis.now.at) slack result }
     ensures small { unsigned_abs result.u ≤ 2 ^ 109 }
 {
     let u = basis_energy(case, columns, basis);
-    if alone.up <= u + slack {
-        Chosen {
-            choice: Choice::OnePhase,
-            u: alone.up,
-        }
-    } else {
-        Chosen {
+    let limit = least(rivals, u) + slack;
+    match first_within(rivals, limit) {
+        Some(k) => Chosen {
+            choice: Choice::Rival(k),
+            u: energy(rivals, k),
+        },
+        None => Chosen {
             choice: Choice::OfBasis,
             u,
+        },
+    }
+}
+
+/// The least upper energy of the rivals and of the basis, in 2^-40 bit.
+fn least(rivals: &ArrayVec<Rival, RIVALS>, basis: i128) -> i128
+    requires { unsigned_abs basis ≤ 2 ^ 109 }
+    ensures least { IsLeast rivals.now.items (length rivals.now.items) basis result }
+    ensures small { unsigned_abs result ≤ 2 ^ 109 }
+{
+    let mut least = basis;
+    for k in 0..rivals.len() {
+        let next = energy(rivals, k);
+        if next < least {
+            least = next;
         }
     }
+    least
+}
+
+/// The place of the first rival whose upper energy is at most the limit, in 2^-40 bit.
+fn first_within(rivals: &ArrayVec<Rival, RIVALS>, limit: i128) -> Option<usize>
+    ensures inside { IfSome result (λ k. k < length rivals.now.items) }
+    ensures within { IfSome result (λ k. energy_at rivals.now.items k ≤ℤ limit) }
+    ensures first { IfSome result (λ k. (j : ℕ) → j < k → limit <ℤ energy_at rivals.now.items j) }
+    ensures none { IfNone result ((j : ℕ) → j < length rivals.now.items → limit <ℤ energy_at rivals.now.items j) }
+{
+    for k in 0..rivals.len() {
+        if energy(rivals, k) <= limit {
+            return Some(k);
+        }
+    }
+    None
+}
+
+/// The upper energy of the rival at a place, in 2^-40 bit for a mole of feed.
+fn energy(rivals: &ArrayVec<Rival, RIVALS>, k: usize) -> i128
+    requires { k < length rivals.now.items }
+    ensures value { result ≡ energy_at rivals.now.items k }
+    ensures small { unsigned_abs result ≤ 2 ^ 109 }
+{
+    rivals[k].u
 }
 
 /// The upper energy of the split of a basis, in 2^-40 bit for a mole of feed: those of its columns, each by its share.
@@ -75,17 +123,26 @@ pub fn split_by(
     case: &Case,
     columns: &Columns,
     basis: &Basis,
-    alone: &Scanned,
+    rivals: ArrayVec<Rival, RIVALS>,
     choice: Choice,
 ) -> Split
     requires columns { AreColumns case.now.n columns.now.items }
     requires basis { IsBasis case.now columns.now.items basis.now.at }
-    requires some { 1 ≤ alone.now.packing }
-    requires inside { alone.now.packing < 2 ^ 40 }
-    ensures { IsSplitBy case.now columns.now.items basis.now.at alone.now.packing choice result }
+    requires place { IsPlace rivals.items choice }
+    ensures { IsSplitBy case.now columns.now.items basis.now.at rivals.items choice result }
 {
     match choice {
-        Choice::OnePhase => one_phase(case, alone.packing),
+        Choice::Rival(k) => taken(rivals, k),
         Choice::OfBasis => amounts(case, columns, basis),
     }
+}
+
+/// The split of the rival at a place.
+fn taken(rivals: ArrayVec<Rival, RIVALS>, k: usize) -> Split
+    requires { k < length rivals.items }
+    ensures { IfSome (slice_get rivals.items k) (λ r. result ≡ r.split) }
+{
+    let mut rivals = rivals;
+    let Rival { split, .. } = rivals.remove(k);
+    split
 }

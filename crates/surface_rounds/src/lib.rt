@@ -9,10 +9,14 @@
 mod answers;
 mod choices;
 mod flashing;
+mod guides;
 mod optimizing;
 mod pure_columns;
+mod rivals;
 mod rounds;
 mod scans;
+mod splits;
 mod stages;
 
 pub use flashing::flashed;
+pub use guides::{COLUMNS, Guesses, Guide, PACKINGS, SPLITS};

@@ -1,40 +1,56 @@
-//! The columns of the pure components, with which every flash begins.
+//! The columns with which every flash begins: those of the pure components, and those that are guessed.
 
-ghost use Rattle.std.specs.Prelude.{ℕ, ◌≡◌, ◌≤◌, ◌<◌, ◌+◌, ◌^◌, ◌≤ℤ◌, if◌then◌else◌, nat_eq, []};
-ghost use Rattle.energy_surface.specs.Columns.{IsColumn, point_up};
+ghost use Rattle.std.specs.Prelude.{ℕ, ◌≡◌, ◌≤◌, ◌<◌, ◌+◌, ◌^◌, ◌++◌, length, if◌then◌else◌, nat_eq, []};
+ghost use Rattle.energy_surface.specs.Columns.{IsColumn};
 ghost use Rattle.energy_surface.specs.Lawful.{pure_composition, IsPureColumn};
-ghost use Rattle.energy_surface.specs.Scans.{scan_packing};
 ghost use Rattle.surface_rounds.specs.Flashing.{ArePure};
 
-use crate::scans::scan;
+use crate::guides::{COLUMNS, Guide};
+use crate::scans::{half, lowest};
+use arrayvec::ArrayVec;
 use box_search::column_at;
 use case_types::{Column, Columns, SLOTS};
 use density_boxes::box_at;
 use energy_surface::Surface;
 
 /// Keeps the column of each component alone, in their order.
-pub fn keep_pure<S: Surface>(surface: &S, columns: &mut Columns)
+pub fn keep_pure<S: Surface, G: Guide>(surface: &S, guide: &G, columns: &mut Columns)
     requires none { columns.old.items ≡ [] }
     requires room { (S.bounds surface.now).count ≤ columns.old.spare }
     ensures pure { ArePure (S.bounds surface.now) (S.bounds surface.now).count columns.new.items }
     ensures room { columns.new.spare + (S.bounds surface.now).count ≡ columns.old.spare }
 {
     for k in 0..surface.count() {
-        columns.push(pure_column(surface, k));
+        columns.push(pure_column(surface, guide, k));
     }
 }
 
-/// The column of the component `k` alone, at the packing fraction of the scan: that of least upper energy.
-fn pure_column<S: Surface>(surface: &S, k: u8) -> Column
+/// Keeps the columns that are guessed, behind those that are there.
+pub fn keep_guessed(guessed: &ArrayVec<Column, COLUMNS>, columns: &mut Columns)
+    requires room { 32 ≤ columns.old.spare }
+    ensures kept { columns.new.items ≡ columns.old.items ++ guessed.now.items }
+    ensures room { columns.new.spare + length guessed.now.items ≡ columns.old.spare }
+    ensures few { length guessed.now.items ≤ 32 }
+{
+    for k in 0..guessed.len() {
+        columns.push(guessed[k]);
+    }
+}
+
+/// The column of the component `k` alone, at the packing fraction of least upper energy among those of the guide and half the
+/// densest packing.
+fn pure_column<S: Surface, G: Guide>(surface: &S, guide: &G, k: u8) -> Column
     requires live { k < (S.bounds surface.now).count }
     requires four { k < 4 }
     ensures column { IsColumn (S.bounds surface.now) result }
     ensures pure { IsPureColumn (S.bounds surface.now) k result }
-    ensures least { (place : ℕ) → place < 64 → result.up ≤ℤ point_up (S.bounds surface.now) (record { composition = pure_composition k; packing = scan_packing place }) }
 {
     let comp = pure(k);
-    let scanned = scan(surface, &box_at(comp));
-    match column_at(surface, comp, scanned.packing) {
+    let x = box_at(comp);
+    let mix = surface.mix_up(&x);
+    let last = half(surface, &mix);
+    let found = lowest(surface, &mix, &guide.packings(&x), last);
+    match column_at(surface, comp, found.packing) {
         Some(column) => column,
         None => unreachable!(),
     }

@@ -7,8 +7,10 @@ ghost use Rattle.energy_surface.specs.Searches.{low_of};
 ghost use Rattle.energy_surface.specs.Surfaces.{under};
 ghost use Rattle.box_search.specs.Found.{IsFound, units_of};
 ghost use Rattle.surface_rounds.specs.Noted.{MakesRound, columns_of, round_noted};
+ghost use Rattle.surface_rounds.specs.Polished.{IsKeptColumn, IsPolished};
 ghost use Rattle.surface_rounds.specs.Room.{HasRoom, IsCounted};
 
+use crate::guides::Guide;
 use box_search::search;
 use case_types::{Columns, Plane, Round, RoundEnd, Units, Work};
 use energy_surface::{Found, Surface};
@@ -16,14 +18,16 @@ use energy_surface::{Found, Surface};
 /// Searches under the plane, and keeps the round and the column that cuts the plane off.
 ///
 /// `u` is the upper energy of the split, in 2^-40 bit.
-pub fn round<S: Surface>(
+pub fn round<S: Surface, G: Guide>(
     surface: &S,
+    guide: &G,
     plane: &Plane,
     u: i128,
     delta: i128,
     work: &mut Work,
     units: &mut Units,
 ) -> Found
+    requires guide { G.bounds guide.now ≡ S.bounds surface.now }
     requires delta_low { pos 1 ≤ℤ delta }
     requires delta_high { delta ≤ℤ pos (2 ^ 39) }
     requires room { HasRoom (units.old.budget - units.old.spent) work.old }
@@ -38,7 +42,8 @@ pub fn round<S: Surface>(
     let columns = work.columns.len() as u32;
     let pivots = work.pivots.len() as u32;
     let from = work.letters.len() as u32;
-    let found = search(surface, plane, delta, &mut work.letters, units);
+    let searched = search(surface, plane, delta, &mut work.letters, units);
+    let found = polished(guide, plane, searched);
     work.rounds.push(Round {
         plane: *plane,
         u,
@@ -50,6 +55,19 @@ pub fn round<S: Surface>(
     });
     keep(&mut work.columns, &found);
     found
+}
+
+/// What a search finds, with the polished column in place of the one that it found below the plane.
+fn polished<G: Guide>(guide: &G, plane: &Plane, found: Found) -> Found
+    requires { IsKeptColumn (G.bounds guide.now) found }
+    ensures { IsPolished (G.bounds guide.now) plane.now found result }
+{
+    match found {
+        Found::Refuted { column } => Found::Refuted {
+            column: guide.polish(plane, column),
+        },
+        other => other,
+    }
 }
 
 /// Notes the round that had no unit left for a pivot: the plane of the pure components, with one cell.

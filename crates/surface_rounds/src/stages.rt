@@ -1,18 +1,20 @@
 //! A round of a flash: pivots, the choice of a split, a plane, and the search under it.
 
 ghost use Rattle.std.specs.Prelude.{◌≡◌, ◌≤◌, ◌+◌, ◌*◌, ◌^◌, pos, ◌≤ℤ◌, IfSome, unsigned_abs};
-ghost use Rattle.case_types.specs.Arithmetic.Bounds.{box_of_parts};
 ghost use Rattle.energy_surface.specs.Outcomes.{delta_of};
 ghost use Rattle.energy_surface.specs.Rounds.{slack_of};
 ghost use Rattle.energy_surface.specs.Searches.{low_of};
 ghost use Rattle.box_search.specs.Found.{units_of};
 ghost use Rattle.surface_rounds.specs.Flashing.{IsBetweenRounds, IsAfterRound};
-ghost use Rattle.surface_rounds.specs.Scanned.{IsScanned};
+ghost use Rattle.surface_rounds.specs.Rivals.{AreRivals};
 
 use crate::choices::{Chosen, choose};
+use crate::guides::Guide;
 use crate::optimizing::optimize;
+use crate::rivals::RIVALS;
 use crate::rounds::{cut_short, round};
-use crate::scans::Scanned;
+use crate::splits::Rival;
+use arrayvec::ArrayVec;
 use box_search::whole_low;
 use case_types::{Case, Plane, Units, Work};
 use energy_surface::{Found, Surface};
@@ -29,12 +31,13 @@ pub struct Stage {
     pub found: Found,
 }
 
-/// A round of a flash. `tol` is the tolerance in 2^-20 bit, and `alone` the state of one phase of least energy in the scan.
-pub fn next_stage<S: Surface>(
+/// A round of a flash. `tol` is the tolerance in 2^-20 bit.
+pub fn next_stage<S: Surface, G: Guide>(
     surface: &S,
+    guide: &G,
     case: &Case,
     tol: u32,
-    alone: &Scanned,
+    rivals: &ArrayVec<Rival, RIVALS>,
     basis: &mut Basis,
     work: &mut Work,
     units: &mut Units,
@@ -42,16 +45,17 @@ pub fn next_stage<S: Surface>(
     requires components { case.now.n ≡ (S.bounds surface.now).count }
     requires tol_low { 128 ≤ tol }
     requires tol_high { tol ≤ 1048576 }
-    requires alone { IsScanned (S.bounds surface.now) (box_of_parts case.now.n case.now.z) alone.now }
+    requires guide { G.bounds guide.now ≡ S.bounds surface.now }
+    requires rivals { AreRivals (S.bounds surface.now) case.now rivals.now.items }
     requires between { IsBetweenRounds (S.bounds surface.now) case.now tol units.old work.old basis.old.at }
-    ensures after { IsAfterRound (S.bounds surface.now) case.now tol units.new work.new basis.new.at alone.now.up result result.found }
+    ensures after { IsAfterRound (S.bounds surface.now) case.now tol units.new work.new basis.new.at rivals.now.items result result.found }
     ensures low { IfSome (low_of result.found) (λ low. unsigned_abs low ≤ 2 ^ 107) }
     ensures up { unsigned_abs result.chosen.u ≤ 2 ^ 109 }
     ensures budget { units.new.budget ≡ units.old.budget }
     ensures spent { units.old.spent + units_of result.found ≤ units.new.spent }
 {
     let wanted = optimize(case, &work.columns, basis, &mut work.pivots, units);
-    let chosen = choose(case, &work.columns, basis, alone, slack(tol));
+    let chosen = choose(case, &work.columns, basis, rivals, slack(tol));
     if wanted.is_some() {
         let plane = plane(case, &work.columns, &start(case));
         let low = whole_low(surface, &plane);
@@ -63,7 +67,15 @@ pub fn next_stage<S: Surface>(
         };
     }
     let plane = plane(case, &work.columns, basis);
-    let found = round(surface, &plane, chosen.u, delta(tol), work, units);
+    let found = round(
+        surface,
+        guide,
+        &plane,
+        chosen.u,
+        delta(tol),
+        work,
+        units,
+    );
     Stage {
         chosen,
         plane,

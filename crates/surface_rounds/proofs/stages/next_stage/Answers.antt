@@ -52,7 +52,7 @@ choose-chosen-requires-clause-ups g c = ups_small (g.S.Surface.bounds c.args.sur
 
 -- ---- after the choice of the split
 way : (g : _) (c : After-choose-chosen g) →
-    OnTheWay (g.S.Surface.bounds c.args.surface.now) c.args.case.now c.args.tol c.args.alone.now c.args.units.now c.optimize-wanted.new.units c.args.work.now c.optimize-wanted.new.pivots
+    OnTheWay (g.S.Surface.bounds c.args.surface.now) c.args.case.now c.args.tol c.args.rivals.now.items c.args.units.now c.optimize-wanted.new.units c.args.work.now c.optimize-wanted.new.pivots
     c.args.basis.now.at c.optimize-wanted.new.basis.at c.choose-chosen.result
 way g c =
     let o = c.optimize-wanted.ensures in
@@ -60,7 +60,7 @@ way g c =
     record {
       count = sym c.requires.components;
       fine = c.requires.tol_low;
-      scanned = c.requires.alone;
+      standing = c.requires.rivals;
       between = c.requires.between;
       pivoted = o.pivoted;
       basis = o.basis;
@@ -89,7 +89,7 @@ returns-then-is_some-clause-after g c =
     let tangent = c.plane-plane.ensures ∙ ap (λ (p : List ℕ). plane_of c.args.case.now.n c.args.work.now.columns.items p) c.start.ensures.places in
     let u = back c.choose-chosen.result.u (omega (arith, c.choose-chosen.ensures.small)) in
     rw (back c.whole_low-low.result (omega (arith, c.whole_low-low.ensures.small)))
-    (after_cut s c.args.case.now c.args.tol c.args.alone.now c.args.units.now o.new.units c.args.work.now o.new.pivots c.args.basis.now.at o.new.basis.at c.choose-chosen.result
+    (after_cut s c.args.case.now c.args.tol c.args.rivals.now.items c.args.units.now o.new.units c.args.work.now o.new.pivots c.args.basis.now.at o.new.basis.at c.choose-chosen.result
     (way g here.After-choose-chosen) c.cut_short.new.work c.plane-plane.result c.whole_low-low.result enters.0 enters.1 tangent
     (record {
       noted = rw u at c.cut_short.ensures.noted;
@@ -129,11 +129,11 @@ module _ (g : _) (c : After-round-found g) where
   later = omega (arith, c.round-found.ensures.spent)
 
   ended : (low : ℤ) → low_of c.round-found.result ≡ Some low →
-      IsAfterRounds (g.S.Surface.bounds c.args.surface.now) c.args.case.now c.args.tol c.round-found.new.units c.round-found.new.work c.optimize-wanted.new.basis.at c.args.alone.now.up
+      IsAfterRounds (g.S.Surface.bounds c.args.surface.now) c.args.case.now c.args.tol c.round-found.new.units c.round-found.new.work c.optimize-wanted.new.basis.at c.args.rivals.now.items
       (record { chosen = c.choose-chosen.result; plane = c.plane-plane-2.result; found = c.round-found.result })
   ended low e =
       let o = c.optimize-wanted in
-      after_end (g.S.Surface.bounds c.args.surface.now) c.args.case.now c.args.tol c.args.alone.now c.args.units.now o.new.units c.args.work.now o.new.pivots c.args.basis.now.at o.new.basis.at
+      after_end (g.S.Surface.bounds c.args.surface.now) c.args.case.now c.args.tol c.args.rivals.now.items c.args.units.now o.new.units c.args.work.now o.new.pivots c.args.basis.now.at o.new.basis.at
       c.choose-chosen.result (way g (goal.at.returns-clause-after g c).After-choose-chosen) c.round-found.new.units c.round-found.new.work c.plane-plane-2.result c.round-found.result
       optimal c.plane-plane-2.ensures went later is low e
 
@@ -142,12 +142,12 @@ module _ (g : _) (c : After-round-found g) where
   cut_off kept e =
       let o = c.optimize-wanted in
       let more = c.round-found.ensures.more (ap units_of e) in
-      after_refuted (g.S.Surface.bounds c.args.surface.now) c.args.case.now c.args.tol c.args.alone.now c.args.units.now o.new.units c.args.work.now o.new.pivots c.args.basis.now.at o.new.basis.at
+      after_refuted (g.S.Surface.bounds c.args.surface.now) c.args.case.now c.args.tol c.args.rivals.now.items c.args.units.now o.new.units c.args.work.now o.new.pivots c.args.basis.now.at o.new.basis.at
       c.choose-chosen.result (way g (goal.at.returns-clause-after g c).After-choose-chosen) c.round-found.new.units c.round-found.new.work c.plane-plane-2.result c.round-found.result
       optimal c.plane-plane-2.ensures went later is kept e more.0 more.1
 
   by_end : (r : Found) → c.round-found.result ≡ r →
-      IsAfterRound (g.S.Surface.bounds c.args.surface.now) c.args.case.now c.args.tol c.round-found.new.units c.round-found.new.work c.optimize-wanted.new.basis.at c.args.alone.now.up
+      IsAfterRound (g.S.Surface.bounds c.args.surface.now) c.args.case.now c.args.tol c.round-found.new.units c.round-found.new.work c.optimize-wanted.new.basis.at c.args.rivals.now.items
       (record { chosen = c.choose-chosen.result; plane = c.plane-plane-2.result; found = c.round-found.result }) r
   by_end (AllClear low) e = ended low (ap low_of e)
   by_end (Refuted kept) e = cut_off kept e

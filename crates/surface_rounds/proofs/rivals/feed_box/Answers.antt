@@ -3,7 +3,7 @@ use Rattle.case_types.specs.declared.phases.Phase.{Phase}
 use Rattle.case_types.specs.Arithmetic.Bounds.{box_of_parts}
 use Rattle.case_types.proofs.Exports.{total_positive}
 use Rattle.split_energies.proofs.Exports.{feed_parts_sum, feed_box_is}
-use Rattle.surface_rounds.proofs.flashing.feed_box.Goals as goal
+use Rattle.surface_rounds.proofs.rivals.feed_box.Goals as goal
 
 pub phase_box-requires-clause-some : goal.phase_box-requires-clause-some
 phase_box-requires-clause-some c =

@@ -1,0 +1,13 @@
+use Rattle.std.proofs.Common.{◌≡◌, ◌+◌, length}
+use Rattle.std.specs.Prelude.{All}
+use Rattle.surface_rounds.specs.Guessing.{IsGuess}
+use Rattle.surface_rounds.specs.Rivals.{AreRivals}
+use Rattle.surface_rounds.proofs.rivals.rivals.Given as goal
+
+abbrev pub invariant-loop : goal.invariant-loop
+invariant-loop g l = record {
+  rivals : AreRivals (g.S.Surface.bounds l.surface) l.case l.list.items;
+  guessed : All (IsGuess (g.S.Surface.bounds l.surface) l.case) l.guessed.items;
+  counted : length l.list.items ≡ l.counter + 1;
+  left : length l.guessed.items + l.counter ≡ length l.initial.guessed.items;
+}
