@@ -36,8 +36,8 @@ BEGIN {
     }
 }
 
-# The table.
-FILENAME != "-" {
+# The table: what comes before the report is given.
+!given {
     split($0, field, ",")
     if (unquoted(field[1]) == "comp") {
         covolume[unquoted(field[2])] = 0.0778 * gas * unquoted(field[3]) / unquoted(field[4])
@@ -89,7 +89,7 @@ $1 == "t" { live[$2] = ++lives }
 
 END {
     if (bad) {
-        exit shape != "head"
+        exit (shape != "head")
     }
     if (answer ~ /^refused/) {
         if (shape == "row") {
