@@ -12,6 +12,15 @@ function failed(text) {
     exit 1
 }
 
+# The least multiple of 1/scale that isn't below the value, and the greatest that isn't above it.
+function above(value, scale,    n) {
+    n = int(value * scale)
+    return (n < value * scale ? n + 1 : n) / scale
+}
+function below(value, scale) {
+    return -above(-value, scale)
+}
+
 # Right-aligned numbers of all phases behind a label.
 function line(label, form, values,    k) {
     printf "%-28s", label
@@ -127,10 +136,10 @@ END {
     heat = gas * temperature
     printf "%s, %d units, at %s K and %.5f bar\n", answer, units, temperature, pressure / 100000
     printf "Gibbs energy from the pure ideal gases at the same temperature and pressure, of a mole of feed:\n"
-    printf "  at most  %.3f J/mol\n", (energy * bit - 1) * heat
-    printf "  at least %.3f J/mol (gap %s)\n", ((energy - gap) * bit - 1) * heat, joules
+    printf "  at most  %.3f J/mol\n", above((energy * bit - 1) * heat, 1000)
+    printf "  at least %.3f J/mol (gap %s)\n", below(((energy - gap) * bit - 1) * heat, 1000), joules
     if (lives == 1) {
-        printf "ln of the fugacity coefficient: at most %.6f, at least %.6f\n", energy * bit - 1, (energy - gap) * bit - 1
+        printf "ln of the fugacity coefficient: at most %.6f, at least %.6f\n", above(energy * bit - 1, 1000000), below((energy - gap) * bit - 1, 1000000)
     }
     printf "near, without bounds of their own:\n"
     line("phase", "%s", kind)
