@@ -52,10 +52,7 @@ fn columns_near(
     let params: &Params = surface.params;
     let mut columns: ArrayVec<Column, COLUMNS> = ArrayVec::new();
     for k in 0..splits.len() {
-        put(
-            &columns_of(surface, &params.case, &splits[k]),
-            &mut columns,
-        );
+        put(&columns_of(surface, &params.case, &splits[k]), &mut columns);
     }
     columns
 }

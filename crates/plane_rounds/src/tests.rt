@@ -41,7 +41,7 @@ fn flashes_critical_point(rt: HostRuntime) -> Result<(), Fail> {
             200_000,
             54,
             Outcome::Closed,
-            Some((884_873_739_355, 524_567_621, -524_568_554, 884_873_740_288)),
+            Some((884_872_885_748, 523_714_014, -523_714_538, 884_872_886_272)),
         ),
         (1, 1, Outcome::Spent, None),
         (3, 3, Outcome::Spent, None),
