@@ -1,4 +1,1 @@
-pub mod Regroup
-pub mod Phases
-pub mod Components
 pub mod Takes

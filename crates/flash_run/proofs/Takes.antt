@@ -4,8 +4,8 @@ use Rattle.std.specs.declared.option.Option.{Option}
 use Rattle.std.specs.declared.option.Option.TheVariants.{None, Some}
 use Rattle.io_edge.specs.Bytes.{ahead}
 use Rattle.io_edge.specs.Reading.{TakesAtMost}
-use Rattle.flash_run.specs.declared.ends.End.{End}
-use Rattle.flash_run.specs.declared.ends.End.TheVariants.{Words, Read, TooLong, Table, Case, Flash, Memory}
+use Rattle.report_text.specs.declared.ends.End.{End}
+use Rattle.report_text.specs.declared.ends.End.TheVariants.{Words, Read, TooLong, Table, Case, Flash, Memory}
 use Rattle.flash_run.specs.Headline.{table_limit}
 use Rattle.flash_run.specs.Ends.{Takes, TakesWhole}
 

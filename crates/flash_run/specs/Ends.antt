@@ -1,8 +1,6 @@
--- What an end says of its status, of its cause and of the source.
+-- What an end says of its cause and of the source.
 use Rattle.std.specs.Prelude.{◌≡◌, ⊤, ℕ, ◌+◌, ◌⊎◌, List, Ok, Err, Some}
 use Rattle.std.specs.declared.option.Option.{Option}
-use Rattle.case_types.specs.declared.answers.Outcome.{Outcome}
-use Rattle.case_types.specs.declared.answers.Outcome.TheVariants.{Closed, Spent, Grain}
 use Rattle.case_types.specs.declared.cases.ParamFault.{ParamFault}
 use Rattle.case_types.specs.Arithmetic.Faults.{fault_of}
 use Rattle.case_types.specs.Arithmetic.Numbers.{numbers_of}
@@ -17,26 +15,9 @@ use Rattle.energy_surface.specs.Lawful.{IsLawful}
 use Rattle.pr_surface.specs.PengRobinson.{surface_of}
 use Rattle.io_edge.specs.Causes.{CountsFault}
 use Rattle.io_edge.specs.Reading.{TakesAtMost, TakesExactly}
-use Rattle.flash_run.specs.declared.ends.End.{End}
-use Rattle.flash_run.specs.declared.ends.End.TheVariants.{Words, Read, TooLong, Table, Case, Flash, Memory}
+use Rattle.report_text.specs.declared.ends.End.{End}
+use Rattle.report_text.specs.declared.ends.End.TheVariants.{Words, Read, TooLong, Table, Case, Flash, Memory}
 use Rattle.flash_run.specs.Headline.{table_limit, IsAll, IsCase}
-
--- ---- the status
--- of a flash
-abbrev pub status_of_outcome : Outcome → ℕ
-status_of_outcome Closed = 0
-status_of_outcome Spent = 5
-status_of_outcome (Grain cell) = 5
-
--- of an end, where its text is written
-abbrev pub status_of : End → ℕ
-status_of (Words fault) = 2
-status_of Read = 6
-status_of TooLong = 11
-status_of (Table fault) = 3
-status_of (Case fault) = 4
-status_of (Flash params picked tol answer) = status_of_outcome answer.outcome
-status_of Memory = 8
 
 -- ---- the source
 -- one fault of the source was counted at Read, and none where words, table or case were judged

@@ -12,8 +12,8 @@ use Rattle.component_table.specs.Picking.{Picks}
 use Rattle.component_table.specs.Tables.{Held, table_of}
 use Rattle.pr_params.specs.declared.numbers.Params.{Params}
 use Rattle.io_edge.specs.Bytes.{ahead, IsSpent}
-use Rattle.flash_run.specs.declared.ends.End.{End}
-use Rattle.flash_run.specs.declared.ends.End.TheVariants.{Flash}
+use Rattle.report_text.specs.declared.ends.End.{End}
+use Rattle.report_text.specs.declared.ends.End.TheVariants.{Flash}
 
 -- the most bytes of a table
 abbrev pub table_limit : ℕ

@@ -1,5 +1,2 @@
-pub mod Pieces
-pub mod RefusalText
-pub mod ReportText
 pub mod Headline
 pub mod Ends

@@ -3,11 +3,6 @@
 ghost use Rattle.std.specs.Prelude.{◌<◌};
 
 use super::*;
-use crate::reports::put_phase;
-use crate::texts::put_thousandths;
-use case_types::Phase;
-use case_words::{Job, read_words};
-use component_table::{pick, read_table};
 use io_edge::{MemSink, MemSource};
 use std::alloc::{AllocError, Global};
 use std::test::Fail;
@@ -22,7 +17,7 @@ const GASES: &str = "comp,methane,190.564,4599200,0.0114,\n\
     cp,methane,19.25,52.13,11.97,-11.32\n";
 
 /// The words of a text, with a blank between each two.
-pub fn words_of(alloc: Global, text: &str) -> Result<Vec<Word>, AllocError> {
+fn words_of(alloc: Global, text: &str) -> Result<Vec<Word>, AllocError> {
     let mut words = Vec::new(alloc);
     for part in text.as_bytes().split(|b| *b == b' ') {
         if !part.is_empty() {
@@ -223,9 +218,9 @@ fn flashes_words_in_any_order_and_spelling(rt: HostRuntime) -> Result<(), Fail> 
 
 /// The report of methane at 150 K and 10000 Pa before its sum, then before the names of its phase, and after them.
 const BEFORE_SUM: &str = "closed units=70\nT=150.000 P=10000 tol=262144\nenergy=1595866482747\n\
-    gap=109724931857\n";
+    gap=109724931857\ngap-joules-per-mole=86.270\n";
 
-const BEFORE_NAMES: &str = " phases=1\nphase 1 vapour packing=268435456\n";
+const BEFORE_NAMES: &str = " phases=1\nphase 1 vapour packing=268435456 share=1.000000\n";
 
 const AFTER_NAMES: &str = "plane 1595866483712\nlow=-109724932822\n\
     two 1630477228166597776 1630477228166597777\ne 1586259924992 1586260020565\n\
@@ -239,22 +234,22 @@ fn prints_names_without_a_part(rt: HostRuntime) -> Result<(), Fail> {
         (
             "tp z=1 names=methane T=150 P=10000 tol=262144 budget=500000",
             "sum=1048576",
-            "part methane 1048576\n",
+            "part methane 1048576 x=1.000000\n",
         ),
         (
             "tp z=1,0 names=methane,decane T=150 P=10000 tol=262144 budget=500000",
             "sum=1048576",
-            "part methane 1048576\npart decane 0\n",
+            "part methane 1048576 x=1.000000\npart decane 0 x=0.000000\n",
         ),
         (
             "tp z=0,1 names=decane,methane T=150 P=10000 tol=262144 budget=500000",
             "sum=1048576",
-            "part decane 0\npart methane 1048576\n",
+            "part decane 0 x=0.000000\npart methane 1048576 x=1.000000\n",
         ),
         (
             "tp z=0,7,0 names=decane,methane,propane T=150 P=10000 tol=262144 budget=500000",
             "sum=7340032",
-            "part decane 0\npart methane 7340032\npart propane 0\n",
+            "part decane 0 x=0.000000\npart methane 7340032 x=1.000000\npart propane 0 x=0.000000\n",
         ),
     ];
     for (words, sum, parts) in cases {
@@ -274,7 +269,8 @@ fn prints_names_without_a_part(rt: HostRuntime) -> Result<(), Fail> {
 
 /// The report of methane at 150 K and 10000 Pa at a finer tolerance, as an independent program prints it.
 const DILUTE: &str = "closed units=93\nT=150.000 P=10000 tol=1024\nenergy=1583869078620\n\
-    gap=471014896\nsum=1048576 phases=1\nphase 1 vapour packing=234881024\npart methane 1048576\n\
+    gap=471014896\ngap-joules-per-mole=0.371\nsum=1048576 phases=1\n\
+    phase 1 vapour packing=234881024 share=1.000000\npart methane 1048576 x=1.000000\n\
     plane 1583869079552\nlow=-471015828\n\
     two 1630477228166597776 1630477228166597777\ne 1586259924992 1586260020565\n\
     t methane 249726707501365 249726707501366\n";
@@ -298,35 +294,6 @@ fn flashes_near_saturation(rt: HostRuntime) -> Result<(), Fail> {
     let (status, sink) = run_in_pieces(alloc, words, table, 4096, &[], &[])?;
     assert_eq!(rt; status, 0);
     assert!(rt; sink.held().starts_with(b"closed units=20\n"));
-    Ok(())
-}
-
-#[test]
-fn prints_phases_and_kelvins(rt: HostRuntime) -> Result<(), Fail> {
-    let alloc = rt.alloc();
-    let words = words_of(
-        alloc,
-        "tp T=300 P=1000000 z=0,7 names=b,a tol=1024 budget=10",
-    )?;
-    let Job::Tp(job) = read_words(&words).ok().ok_or("refused")?;
-    let table = read_table(alloc, b"comp,a,300,1000000,0,\ncomp,b,400,1000000,0,\n");
-    let picked = pick(&table.ok().ok_or("refused")?, &job)
-        .ok()
-        .ok_or("refused")?;
-    let mut text = Vec::new(alloc);
-    put_thousandths(&mut text, 273_150)?;
-    put_thousandths(&mut text, 50_009)?;
-    // The least packing of a liquid, and the one below it.
-    for (k, packing) in [(1, 278_286_392_991), (2, 278_286_392_990)] {
-        let phase = Phase {
-            parts: [7, 0, 0, 0],
-            packing,
-        };
-        put_phase(&mut text, &picked, k, &phase)?;
-    }
-    let want = b"273.15050.009phase 1 liquid packing=278286392991\npart b 0\npart a 7\n\
-        phase 2 vapour packing=278286392990\npart b 0\npart a 7\n";
-    assert_eq!(rt; text.as_slice(), want.as_slice());
     Ok(())
 }
 

@@ -4,17 +4,18 @@ ghost use Rattle.std.specs.Prelude.{◌≡◌, ◌≢◌, ◌⊎◌, ◌≤◌, 
 ghost use Rattle.case_words.specs.Views.{asked_by};
 ghost use Rattle.io_edge.specs.Causes.{CountsFault};
 ghost use Rattle.io_edge.specs.Writing.{WritesAll, WritesSome};
-ghost use Rattle.flash_run.specs.ReportText.{report_text};
-ghost use Rattle.flash_run.specs.Ends.{status_of, CountsRead, Takes, Judges, Comes};
+ghost use Rattle.report_text.specs.ReportText.{report_text};
+ghost use Rattle.report_text.specs.Statuses.{status_of};
+ghost use Rattle.flash_run.specs.Ends.{CountsRead, Takes, Judges, Comes};
 ghost use Rattle.flash_run.specs.Headline.{Certifies, Answers};
 
-use crate::ends::{End, RunEnd};
-use crate::reports::report;
+use crate::ends::RunEnd;
 use case_words::{FlashWords, Job, Word, read_words};
 use component_table::{CaseFault, TableError, pick, read_table};
 use io_edge::{ReadStop, Sink, Source, read_all, write_all};
 use plane_rounds::flash_tp;
 use pr_params::params;
+use report_text::{End, report};
 use std::alloc::Global;
 
 /// The most bytes of a table.

@@ -1,6 +1,0 @@
-use Rattle.flash_run.specs.Pieces.{Adds, texts_below}
-use Rattle.flash_run.specs.ReportText.{part_text}
-use Rattle.flash_run.proofs.reports.put_parts.Given as goal
-
-abbrev pub invariant-loop-i : goal.invariant-loop-i
-invariant-loop-i l = Adds l.fn.out.items l.out.items (texts_below l.i (part_text l.picked l.parts))

@@ -1,9 +1,0 @@
-use Rattle.std.proofs.Common.{arith}
-use Rattle.flash_run.proofs.Regroup.{adds-then, adds-as}
-use Rattle.flash_run.proofs.Phases.{phases_text-take}
-use Rattle.flash_run.proofs.reports.put_phases.Goals as goal
-
-pub loop-k-preserved : goal.loop-k-preserved
-loop-k-preserved c =
-    adds-as _ (phases_text-take c.args.picked.now c.args.phases.now c.loop-k.k _ (omega arith))
-    (adds-then c.loop-k.invariant c.in_ok-put_phase.ensures)

@@ -1,0 +1,4 @@
+pub mod Components
+pub mod Parts
+pub mod Phases
+pub mod Regroup

@@ -1,0 +1,9 @@
+use Rattle.case_types.specs.Energy.Printed.{enclosures_in}
+use Rattle.report_text.specs.Pieces.{Adds, texts_below}
+use Rattle.report_text.specs.ReportText.{pressures_text}
+use Rattle.report_text.proofs.enclosures.put_pressures.Given as goal
+
+abbrev pub invariant-loop-i : goal.invariant-loop-i
+invariant-loop-i l =
+    let p = l.params in
+    Adds l.fn.out.items l.out.items (texts_below l.i (pressures_text p.case (enclosures_in p.case.n p.two p.e p.t p.q)))

@@ -1,0 +1,10 @@
+use Rattle.std.proofs.Common.{rules, SFits}
+use Rattle.std.specs.Int.{w128}
+use Rattle.std.proofs.lemmas.Int.{to_z-of_z}
+use Rattle.report_text.proofs.Regroup.{adds-then}
+use Rattle.report_text.proofs.texts.put_fixed_line.Goals as goal
+
+pub returns : goal.returns
+returns c =
+    let fits : SFits w128 c.args.n = search rules in
+    adds-then (adds-then c.in_ok-put_text.ensures (simp to_z-of_z at c.in_ok-put_fixed.ensures)) c.in_ok-put_text-2.ensures
