@@ -17,9 +17,10 @@ use std::alloc::Global;
 use std::test::Fail;
 
 /// Energies in 2^-40 bit, and mJ of one mole at 300 K.
-const JOULES: [(i128, i128); 10] = [
-    // A bit: RT ln 2.
+const JOULES: [(i128, i128); 11] = [
+    // A bit: RT ln 2; and three quarters of 2^-10 bit.
     (1 << 40, 1_728_944),
+    (805_306_368, 1_267),
     // Exact, and rounded up.
     (0, 0),
     (1_663_314_087_108_411_392, 2_615_503_786_288),
