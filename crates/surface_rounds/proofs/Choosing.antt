@@ -1,19 +1,11 @@
 -- The least energy of the rivals and of the basis, and the first one that lies near it.
-use Rattle.std.proofs.Common.{◌≡◌, ℕ, ◌+◌, ◌<◌, ◌⊎◌, inl, inr, List, length, ℤ, pos, ◌+ℤ◌, ◌≤ℤ◌, ◌<ℤ◌, refl, sym, arith}
+use Rattle.std.proofs.Common.{◌≡◌, ℕ, ◌+◌, ◌<◌, inl, inr, List, length, ℤ, pos, ◌+ℤ◌, ◌≤ℤ◌, ◌<ℤ◌, refl, sym, arith}
 use Rattle.std.proofs.lemmas.Int.{ints}
 use Rattle.surface_rounds.specs.declared.choices.Choice.TheVariants as Choices
 use Rattle.surface_rounds.specs.declared.splits.Rival.{Rival}
 use Rattle.surface_rounds.specs.Choices.{IsLeast, IsNear, IsChosen}
 use Rattle.surface_rounds.specs.Rivals.{energy_at}
-
-last_or_before : (j k : ℕ) → j < k + 1 → (j < k) ⊎ (j ≡ k)
-last_or_before j k h = grind (arith, h)
-
-same : (a b : ℤ) → a ≡ b → a ≤ℤ b
-same a b h = omega (arith, ints, h)
-
-under : (a b c : ℤ) → a <ℤ b → b ≤ℤ c → a ≤ℤ c
-under a b c h k = omega (arith, ints, h, k)
+use Rattle.surface_rounds.proofs.Order.{last_or_before, no_less, at_most, through}
 
 -- ---- the least
 pub least_begun : (rivals : List Rival) (basis : ℤ) → IsLeast rivals 0 basis basis
@@ -23,10 +15,10 @@ pub least_lower : (rivals : List Rival) (k : ℕ) (basis least next : ℤ) → I
     IsLeast rivals (k + 1) basis next
 least_lower rivals k basis least next so inside e less = record {
   no_rival = λ j h. elim (last_or_before j k h) [
-    | inl l ↦ under next least (energy_at rivals j) less (so.no_rival j l)
-    | inr d ↦ rw d (same next (energy_at rivals k) e)
+    | inl l ↦ through next least (energy_at rivals j) (at_most next least less) (so.no_rival j l)
+    | inr d ↦ rw d (no_less next (energy_at rivals k) e)
   ];
-  not_basis = under next least basis less so.not_basis;
+  not_basis = through next least basis (at_most next least less) so.not_basis;
   one = inr (k, inside, e);
 }
 

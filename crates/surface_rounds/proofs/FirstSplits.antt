@@ -1,7 +1,6 @@
 -- The splits that are there before the first round.
-use Rattle.std.proofs.Common.{◌≡◌, ℕ, ◌^◌, ◌<◌, List, [], ◌∷◌, ◌++◌, length, ℤ, ◌≤ℤ◌, unsigned_abs, refl, ap, sym, ◌∙◌, arith, length-append}
+use Rattle.std.proofs.Common.{◌≡◌, ℕ, ◌^◌, ◌<◌, List, [], ◌∷◌, ◌++◌, length, ◌≤ℤ◌, unsigned_abs, refl, ap, sym, ◌∙◌, arith, length-append}
 use Rattle.std.specs.Prelude.{All}
-use Rattle.std.proofs.lemmas.Int.{ints}
 use Rattle.std.proofs.lemmas.List.Elements.{All-cons, All-nil, All-push}
 use Rattle.case_types.specs.declared.cases.Case.{Case}
 use Rattle.case_types.specs.declared.phases.Phase.{Phase}
@@ -17,6 +16,7 @@ use Rattle.surface_rounds.specs.declared.splits.Rival.{Rival}
 use Rattle.surface_rounds.specs.Guessing.{IsGuess, IsInside}
 use Rattle.surface_rounds.specs.Rivals.{energy_at, IsRival, AreRivals}
 use Rattle.surface_rounds.specs.Scanned.{IsScanned, lowest_of}
+use Rattle.surface_rounds.proofs.Order.{through}
 use Rattle.surface_rounds.proofs.ScanSteps.{scan_inside, lowest_is}
 
 -- ---- the feed in one phase
@@ -25,9 +25,6 @@ pub record IsAlone (s : Surface) (c : Case) (found : Scanned) : Type 0 where
   pub inside : IsInside found.packing
   pub small : unsigned_abs found.up < 2 ^ 49
   pub scanned : (k : ℕ) → k < 64 → found.up ≤ℤ one_phase_up s c (scan_packing k)
-
-through : (a b c : ℤ) → a ≤ℤ b → b ≤ℤ c → a ≤ℤ c
-through a b c h k = omega (arith, ints, h, k)
 
 pub alone_found : (s : Surface) (c : Case) (x : Box) (ps : List ℕ) (last found : Scanned) → s.count ≡ c.n → x ≡ box_of_parts c.n c.z → IsScanned s x last → All IsInside ps →
     found ≡ lowest_of s x ps last → unsigned_abs found.up < 2 ^ 49 → IsAlone s c found

@@ -1,4 +1,5 @@
 pub mod Growing
+pub mod Order
 pub mod Choosing
 pub mod ScanSteps
 pub mod FirstSplits

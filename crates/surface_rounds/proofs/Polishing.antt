@@ -17,12 +17,10 @@ use Rattle.box_search.specs.Found.{IsFound, units_of}
 use Rattle.box_search.specs.Written.{Searches}
 use Rattle.surface_rounds.specs.Guessing.{LiesNoHigher}
 use Rattle.surface_rounds.specs.Polished.{IsPolished}
+use Rattle.surface_rounds.proofs.Order.{through}
 
 below : (up plane other at delta : ℤ) → (up -ℤ plane) ≤ℤ (other -ℤ at) → (other +ℤ delta) <ℤ at → (up +ℤ delta) <ℤ plane
 below up plane other at delta h k = omega (arith, ints, h, k)
-
-through : (a b c : ℤ) → a ≤ℤ b → b ≤ℤ c → a ≤ℤ c
-through a b c h k = omega (arith, ints, h, k)
 
 -- ---- the one column for the other
 module _ (s : Surface) (plane : Plane) (delta : ℤ) (found kept : Column) (good : IsColumn s kept) (lower : LiesNoHigher s plane kept found) where

@@ -68,15 +68,15 @@ pure_point s k comp y live four e inside = record {
   not_full = inside.less;
 }
 
-through : (a b c d : ℤ) → a ≡ b → b ≤ℤ c → c ≡ d → a ≤ℤ d
-through a b c d h k l = omega (arith, ints, h, k, l)
+between : (a b c d : ℤ) → a ≡ b → b ≤ℤ c → c ≡ d → a ≤ℤ d
+between a b c d h k l = omega (arith, ints, h, k, l)
 
 -- its column lies no higher than at half the densest packing
 pub pure_lies : (s : Surface) (k : ℕ) (comp : List ℕ) (x : Box) (half found : Scanned) (col : Column) → comp ≡ pure_composition k → x ≡ point_box comp →
     half ≡ state_at s x (2 ^ 39) → IsLowest s x half found → IsColumn s col → col.comp ≡ comp → col.packing ≡ found.packing → IsPureColumn s k col
 pure_lies s k comp x half found col alone box last low is at packed = record {
   alone = at ∙ alone;
-  no_higher = through col.up found.up half.up (point_up s (record { composition = pure_composition k; packing = 2 ^ 39 }))
+  no_higher = between col.up found.up half.up (point_up s (record { composition = pure_composition k; packing = 2 ^ 39 }))
       (is.up ∙ ap (λ (p : List ℕ). s.up (point_box p) col.packing) at ∙ ap (λ (y : ℕ). s.up (point_box comp) y) packed ∙ ap (λ (b : Box). s.up b found.packing) (sym box) ∙ sym low.up)
       low.no_higher
       (ap (λ (f : Scanned). f.up) last ∙ ap (λ (b : Box). s.up b (2 ^ 39)) box ∙ ap (λ (p : List ℕ). s.up (point_box p) (2 ^ 39)) alone);

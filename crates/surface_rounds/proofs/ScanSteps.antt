@@ -1,5 +1,5 @@
 -- A scan goes on by one place.
-use Rattle.std.proofs.Common.{◌≡◌, ℕ, zero, suc, Bool, true, false, List, [], ◌∷◌, length, drop, ◌+◌, ◌-◌, ◌^◌, ◌<◌, ◌≤◌, ◌⊎◌, inl, inr, ℤ, pos, neg_ℤ, ◌≤ℤ◌, ◌<ℤ◌, unsigned_abs, refl, ap, sym, ◌∙◌, arith}
+use Rattle.std.proofs.Common.{◌≡◌, ℕ, zero, suc, Bool, true, false, List, [], ◌∷◌, length, drop, ◌+◌, ◌-◌, ◌^◌, ◌<◌, ◌≤◌, inl, inr, ℤ, pos, neg_ℤ, ◌≤ℤ◌, ◌<ℤ◌, unsigned_abs, refl, ap, sym, ◌∙◌, arith}
 use Rattle.std.specs.Prelude.{All, nat_eq, int_le, if◌then◌else◌}
 use Rattle.std.proofs.lemmas.List.Elements.{All-head, All-tail}
 use Rattle.std.proofs.Math.ListN.{get_or}
@@ -12,18 +12,7 @@ use Rattle.energy_surface.specs.Surfaces.{Surface}
 use Rattle.surface_rounds.specs.declared.scans.Scanned.{Scanned}
 use Rattle.surface_rounds.specs.Guessing.{IsInside}
 use Rattle.surface_rounds.specs.Scanned.{IsScannedBelow, state_at, lower_of, lowest_of}
-
-last_or_before : (j k : ℕ) → j < k + 1 → (j < k) ⊎ (j ≡ k)
-last_or_before j k h = grind (arith, h)
-
-no_less : (a b : ℤ) → a ≡ b → a ≤ℤ b
-no_less a b h = omega (arith, ints, h)
-
-through : (a b c : ℤ) → a <ℤ b → b ≤ℤ c → a <ℤ c
-through a b c h k = omega (arith, ints, h, k)
-
-at_most : (a b : ℤ) → a <ℤ b → a ≤ℤ b
-at_most a b h = omega (arith, ints, h)
+use Rattle.surface_rounds.proofs.Order.{last_or_before, no_less, at_most, through, less_through}
 
 between : (a b : ℤ) → neg_ℤ (pos (2 ^ 49)) <ℤ a → a <ℤ b → unsigned_abs b < 2 ^ 49 → unsigned_abs a < 2 ^ 49
 between a b h k l = omega (arith, ints, h, k, l)
@@ -38,10 +27,10 @@ scan_replaced s x k best next so at up deep less = record {
   up = up;
   small = between next.up best.up deep less so.small;
   least = λ j h. elim (last_or_before j k h) [
-    | inl l ↦ at_most next.up (s.up x (scan_packing j)) (through next.up best.up (s.up x (scan_packing j)) less (so.least j l))
+    | inl l ↦ at_most next.up (s.up x (scan_packing j)) (less_through next.up best.up (s.up x (scan_packing j)) less (so.least j l))
     | inr e ↦ no_less next.up (s.up x (scan_packing j)) (up ∙ ap (λ y. s.up x y) (at ∙ ap scan_packing (sym e)))
   ];
-  first = λ j h. through next.up best.up (s.up x (scan_packing j)) less (so.least j h);
+  first = λ j h. less_through next.up best.up (s.up x (scan_packing j)) less (so.least j h);
 }
 
 -- and one of no less energy doesn't
@@ -117,13 +106,10 @@ pub record IsLowest (s : Surface) (x : Box) (last found : Scanned) : Type 0 wher
 
 lower_either : (s : Surface) (x : Box) (y : ℕ) (last found : Scanned) (b : Bool) → int_le (s.up x y) found.up ≡ b → IsInside y → IsLowest s x last found →
     IsLowest s x last (if b then state_at s x y else found)
-lower_either s x y last found true e inside h = record { up = refl; inside = inside; no_higher = below (s.up x y) found.up last.up (under e) h.no_higher }
+lower_either s x y last found true e inside h = record { up = refl; inside = inside; no_higher = through (s.up x y) found.up last.up (under e) h.no_higher }
   where
     under : int_le (s.up x y) found.up ≡ true → s.up x y ≤ℤ found.up
     under e = grind (arith, e)
-
-    below : (a b c : ℤ) → a ≤ℤ b → b ≤ℤ c → a ≤ℤ c
-    below a b c h k = omega (arith, ints, h, k)
 lower_either s x y last found false e inside h = h
 
 pub lowest_is : (s : Surface) (x : Box) (ys : List ℕ) (last : Scanned) → All IsInside ys → last.up ≡ s.up x last.packing → IsInside last.packing →

@@ -1,6 +1,6 @@
 //! The split that a round chooses.
 
-ghost use Rattle.std.specs.Prelude.{ℕ, ◌≡◌, ◌≤◌, ◌<◌, ◌*◌, ◌^◌, ◌⊎◌, length, pos, ◌≤ℤ◌, ◌<ℤ◌, unsigned_abs, All, IfSome, IfNone, slice_get};
+ghost use Rattle.std.specs.Prelude.{ℕ, ◌≡◌, ◌≤◌, ◌<◌, ◌*◌, ◌^◌, length, pos, ◌≤ℤ◌, ◌<ℤ◌, unsigned_abs, All, IfSome, IfNone, slice_get};
 ghost use Rattle.case_types.specs.declared.rounds.Column.{Column};
 ghost use Rattle.energy_surface.specs.Program.Bases.{AreColumns, IsBasis};
 ghost use Rattle.surface_rounds.specs.Choices.{columns_up, IsLeast, IsChosen, IsSplitBy, IsPlace};

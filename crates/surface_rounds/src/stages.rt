@@ -67,15 +67,7 @@ pub fn next_stage<S: Surface, G: Guide>(
         };
     }
     let plane = plane(case, &work.columns, basis);
-    let found = round(
-        surface,
-        guide,
-        &plane,
-        chosen.u,
-        delta(tol),
-        work,
-        units,
-    );
+    let found = round(surface, guide, &plane, chosen.u, delta(tol), work, units);
     Stage {
         chosen,
         plane,

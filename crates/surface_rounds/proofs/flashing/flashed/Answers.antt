@@ -86,7 +86,7 @@ loop-work-preserved g c =
 -- ---- the last one
 last : (g : _) (c : In_default g) →
     IsAfterRounds (g.S.Surface.bounds c.args.surface.now) c.args.case.now c.args.tol c.next_stage-stage.new.units c.next_stage-stage.new.work c.next_stage-stage.new.basis.at c.rivals-rivals.result.items
-      c.next_stage-stage.result
+    c.next_stage-stage.result
 last g c =
     let stage = c.next_stage-stage in
     is_last (g.S.Surface.bounds c.args.surface.now) c.args.case.now c.args.tol stage.new.units stage.new.work stage.new.basis.at c.rivals-rivals.result.items stage.result stage.result.found

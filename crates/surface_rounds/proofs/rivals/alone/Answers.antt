@@ -33,4 +33,4 @@ pub returns-clause-scanned : goal.returns-clause-scanned
 returns-clause-scanned g c = λ k h.
     let alone = found g (goal.at.returns-clause-scanned g c).After-lowest-found in
     rw (alone_energy (g.S.Surface.bounds c.args.surface.now) c.args.case.now c.lowest-found.result c.one_phase.result c.weighed.result (sym c.requires.components) alone c.one_phase.ensures
-      c.weighed.ensures.rival c.weighed.ensures.split) (alone.scanned k h)
+    c.weighed.ensures.rival c.weighed.ensures.split) (alone.scanned k h)

@@ -28,7 +28,7 @@ loop-k-preserved-then-next-best g c = λ x m.
     let next = c.state-next.result in
     let lower : next.up ≤ℤ c.loop-k.best.up = omega (arith, ints, c.if-next-best.true, c.state-next.ensures.small, before.1) in (
       lowest_more s x ys c.loop-k.k _ c.args.last c.loop-k.best next c.loop-k-test.true (inside g here x m) refl before.0
-      (lower_taken s x _ next c.loop-k.best (at g here x m) lower),
+          (lower_taken s x _ next c.loop-k.best (at g here x m) lower),
       lower_small next.up c.loop-k.best.up (c.state-next.ensures.not_deep x m) lower before.1,
     )
 
@@ -40,6 +40,6 @@ loop-k-preserved g c = λ x m.
     let before = c.loop-k.invariant x m in
     let next = c.state-next.result in (
       lowest_more s x ys c.loop-k.k _ c.args.last c.loop-k.best c.loop-k.best c.loop-k-test.true (inside g here x m) refl before.0
-      (lower_stays s x _ next c.loop-k.best (at g here x m) (omega (arith, ints, c.if-next-best.false, c.state-next.ensures.small, before.1))),
+          (lower_stays s x _ next c.loop-k.best (at g here x m) (omega (arith, ints, c.if-next-best.false, c.state-next.ensures.small, before.1))),
       before.1,
     )
