@@ -10,7 +10,8 @@ use crate::points::Near;
 use arrayvec::ArrayVec;
 use case_types::SLOTS;
 
-/// A composition beside a phase in the direction of the component `i`: its fraction is raised by a 64th of itself.
+/// A composition beside a phase in the direction of the component `i`: its fraction is raised by a 64th of itself, and by two units
+/// of the grid at least, so that it is another one on the grid too where there is a trace of the component or none.
 ///
 /// The phase is the first of the points, or another that has more than four times as much of the component.
 pub fn beside(n: u8, points: &ArrayVec<Near, 7>, i: u8) -> [u32; SLOTS]
@@ -48,7 +49,7 @@ fn has_more(comp: &[u32; SLOTS], other: &[u32; SLOTS], i: u8) -> bool
     comp[i as usize] as u64 > 4 * other[i as usize] as u64
 }
 
-/// The composition with the fraction of the component `i` raised by a 64th of itself, on the grid.
+/// The composition with the fraction of the component `i` raised, on the grid.
 fn raised(n: u8, comp: [u32; SLOTS], i: u8) -> [u32; SLOTS]
     requires one { 1 ≤ n }
     requires four { n ≤ 4 }
@@ -65,6 +66,9 @@ fn raised(n: u8, comp: [u32; SLOTS], i: u8) -> [u32; SLOTS]
     to_grid(n, &parts)
 }
 
+/// How much a fraction is raised at least, in 2^-40: two units of the grid, of which the rounding there leaves one.
+const LEAST: u64 = 2 << 20;
+
 /// The fraction of the component `k`, in 2^-40, raised where it is the component `i`.
 fn raised_part(comp: &[u32; SLOTS], i: u8, k: u8) -> u128
     requires { k < 4 }
@@ -73,7 +77,7 @@ fn raised_part(comp: &[u32; SLOTS], i: u8, k: u8) -> u128
 {
     let part = (comp[k as usize] as u64) << 20;
     if k == i {
-        (part + (part >> 6)) as u128
+        (part + (part >> 6).max(LEAST)) as u128
     } else {
         part as u128
     }
