@@ -11,6 +11,7 @@ const WHOLE: u32 = 1 << 20;
 const ONE: u64 = 1 << 40;
 
 /// A text that is read by as many letters as stated, and what is left of the tree behind it.
+#[derive(Clone, Copy)]
 struct Trial {
     n: u8,
     letters: u32,
