@@ -4,3 +4,5 @@ pub mod Finishing
 pub mod Lines
 pub mod Bounds
 pub mod OneTree
+pub mod Counting
+pub mod Exports

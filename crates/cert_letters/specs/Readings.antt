@@ -1,5 +1,5 @@
 -- A tree of halvings that is read from its letters, one byte at a time.
-use Rattle.std.specs.Prelude.{ℕ, ◌+◌, ◌-◌, ◌==◌, ◌||◌, List, [], ◌∷◌, Bool, true, false, if◌then◌else◌, Option, Some, None}
+use Rattle.std.specs.Prelude.{ℕ, ◌+◌, ◌-◌, ◌≡◌, ◌==◌, ◌||◌, List, [], ◌∷◌, Bool, true, false, if◌then◌else◌, Option, Some, None}
 use Rattle.case_types.specs.Grid.Cells.{Region, region_of, root_region, lower_half, upper_half, Mark, Step, Ends, Halves, Visit}
 use Rattle.cert_letters.specs.Steps.{step_of, can_halve, mark_of}
 use Rattle.cert_letters.specs.declared.reader.TreeStep.{TreeStep}
@@ -63,6 +63,10 @@ by_visit r (Some v) = by_step r v.region v.step
 -- after the next byte
 unfoldable pub next : Reading → ℕ → Reading
 next r byte = by_visit r (visit_of r byte)
+
+-- each byte that isn't refused is one of the stated number of letters
+abbrev pub LettersCount : Type 0
+LettersCount = (r : Reading) (byte : ℕ) (v : Visit) → visit_of r byte ≡ Some v → (next r byte).left + 1 ≡ r.left
 
 -- ---- what is told of it
 pub data Told : Type 0 where

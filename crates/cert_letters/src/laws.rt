@@ -2,6 +2,7 @@
 
 ghost use Rattle.cert_letters.specs.Bounds.{LinesBound};
 ghost use Rattle.cert_letters.specs.Lines.{LettersWriteOne, LinesAreTrees, TreesAreLines};
+ghost use Rattle.cert_letters.specs.Readings.{LettersCount};
 
 /// A line of letters that is read whole writes a tree of as many letters as stated, whose halvings can be and whose leaves pass.
 pub fn lines_are_trees()
@@ -16,6 +17,11 @@ pub fn trees_are_lines()
 /// Letters write one tree of a cell alone, wherever they end.
 pub fn letters_write_one()
     ensures { LettersWriteOne }
+{}
+
+/// Each letter that isn't refused is one of the stated number, so no more than that are taken.
+pub fn letters_count()
+    ensures { LettersCount }
 {}
 
 /// Where each leaf misses, or doesn't and has a low by its letter of at least the stated one, that low holds over the whole
