@@ -1,0 +1,5 @@
+pub mod Steps
+pub mod Readings
+pub mod Depth
+pub mod Lines
+pub mod Bounds
