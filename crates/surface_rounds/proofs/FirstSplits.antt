@@ -1,6 +1,7 @@
 -- The splits that are there before the first round.
-use Rattle.std.proofs.Common.{◌≡◌, ℕ, ◌^◌, ◌<◌, List, [], ◌∷◌, ◌++◌, length, ◌≤ℤ◌, unsigned_abs, refl, ap, sym, ◌∙◌, arith, length-append}
-use Rattle.std.specs.Prelude.{All}
+use Rattle.std.proofs.Common.{◌≡◌, ℕ, ◌^◌, ◌<◌, List, [], ◌∷◌, ◌++◌, length, map, drop, ◌≤ℤ◌, unsigned_abs, refl, ap, sym, ◌∙◌, arith, length-append}
+use Rattle.std.specs.Prelude.{All, slice_index_or}
+use Rattle.std.proofs.lemmas.List.{drop-append-le, map-append, append_assoc}
 use Rattle.std.proofs.lemmas.List.Elements.{All-cons, All-nil, All-push}
 use Rattle.case_types.specs.declared.cases.Case.{Case}
 use Rattle.case_types.specs.declared.phases.Phase.{Phase}
@@ -14,7 +15,7 @@ use Rattle.split_energies.proofs.Exports.{feed_up, one_phase_energy, one_phase_d
 use Rattle.surface_rounds.specs.declared.scans.Scanned.{Scanned}
 use Rattle.surface_rounds.specs.declared.splits.Rival.{Rival}
 use Rattle.surface_rounds.specs.Guessing.{IsGuess, IsInside}
-use Rattle.surface_rounds.specs.Rivals.{energy_at, IsRival, AreRivals}
+use Rattle.surface_rounds.specs.Rivals.{energy_at, IsRival, AreRivals, splits_behind}
 use Rattle.surface_rounds.specs.Scanned.{IsScanned, lowest_of}
 use Rattle.surface_rounds.proofs.Order.{through}
 use Rattle.surface_rounds.proofs.ScanSteps.{scan_inside, lowest_is}
@@ -62,3 +63,17 @@ rival_more s c rivals r are is = record {
   some = rw length-append (omega (arith, are.some));
   scanned = λ k h. rw (first_stays rivals r are.some) (are.scanned k h);
 }
+
+-- a guess goes from the front of the one list to the end of the other
+front_taken : (split : Split) (guessed : List Split) → 0 < length guessed → split ≡ slice_index_or guessed 0 split → guessed ≡ split ∷ drop 1 guessed
+front_taken split [] some is = absurd (omega (arith, some))
+front_taken split (x ∷ xs) some is = ap (λ (y : Split). y ∷ xs) (sym is)
+
+pub behind_more : (rivals : List Rival) (r : Rival) (split : Split) (guessed : List Split) → 0 < length rivals → r.split ≡ split → 0 < length guessed →
+    split ≡ slice_index_or guessed 0 split → splits_behind (rivals ++ r ∷ []) ++ drop 1 guessed ≡ splits_behind rivals ++ guessed
+behind_more rivals r split guessed one same some is =
+    let front = front_taken split guessed some is in
+    let more : splits_behind (rivals ++ r ∷ []) ≡ splits_behind rivals ++ split ∷ [] =
+    ap (map (λ (q : Rival). q.split)) (drop-append-le 1 rivals (r ∷ []) (omega (arith, one))) ∙ map-append (λ (q : Rival). q.split) (drop 1 rivals) (r ∷ [])
+    ∙ ap (λ (y : Split). splits_behind rivals ++ y ∷ []) same in
+    ap (λ ys. ys ++ drop 1 guessed) more ∙ append_assoc (splits_behind rivals) (split ∷ []) (drop 1 guessed) ∙ ap (λ ys. splits_behind rivals ++ ys) (sym front)

@@ -1,6 +1,7 @@
 -- The splits that are there before the first round.
-use Rattle.std.specs.Prelude.{ℕ, ◌≡◌, ◌<◌, List, length, map, All, ℤ, pos, ◌≤ℤ◌, slice_index_or}
+use Rattle.std.specs.Prelude.{ℕ, ◌≡◌, ◌<◌, List, length, map, drop, All, ℤ, pos, ◌≤ℤ◌, slice_index_or}
 use Rattle.case_types.specs.declared.cases.Case.{Case}
+use Rattle.case_types.specs.declared.phases.Split.{Split}
 use Rattle.case_types.specs.Arithmetic.Splits.{split_up}
 use Rattle.energy_surface.specs.Scans.{scan_packing, one_phase_up}
 use Rattle.energy_surface.specs.Surfaces.{Surface}
@@ -20,3 +21,7 @@ pub record AreRivals (s : Surface) (c : Case) (rivals : List Rival) : Type 0 whe
   pub each : All (IsRival s c) rivals
   pub some : 0 < length rivals
   pub scanned : (k : ℕ) → k < 64 → energy_at rivals 0 ≤ℤ one_phase_up s c (scan_packing k)
+
+-- the splits behind the first one, in their order
+abbrev pub splits_behind : List Rival → List Split
+splits_behind rivals = map (λ (r : Rival). r.split) (drop 1 rivals)

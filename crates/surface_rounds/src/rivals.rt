@@ -4,7 +4,7 @@ ghost use Rattle.std.specs.Prelude.{ℕ, ◌≡◌, ◌≤◌, ◌<◌, ◌^◌,
 ghost use Rattle.case_types.specs.Arithmetic.Bounds.{box_of, box_of_parts};
 ghost use Rattle.energy_surface.specs.Scans.{scan_packing, one_phase_up};
 ghost use Rattle.surface_rounds.specs.Guessing.{IsGuess};
-ghost use Rattle.surface_rounds.specs.Rivals.{IsRival, AreRivals};
+ghost use Rattle.surface_rounds.specs.Rivals.{IsRival, AreRivals, splits_behind};
 
 use crate::guides::{Guide, SPLITS};
 use crate::scans::{lowest, scan};
@@ -28,7 +28,8 @@ pub fn rivals<S: Surface, G: Guide>(
 ) -> ArrayVec<Rival, RIVALS>
     requires components { case.now.n ≡ (S.bounds surface.now).count }
     requires guessed { All (IsGuess (S.bounds surface.now) case.now) guessed.items }
-    ensures { AreRivals (S.bounds surface.now) case.now result.items }
+    ensures rivals { AreRivals (S.bounds surface.now) case.now result.items }
+    ensures guessed { splits_behind result.items ≡ guessed.items }
 {
     let mut guessed = guessed;
     let mut list: ArrayVec<Rival, RIVALS> = ArrayVec::new();

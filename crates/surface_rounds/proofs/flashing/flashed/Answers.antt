@@ -114,4 +114,4 @@ returns-in-loop-work g c =
     let stage = c.next_stage-stage in
     let here = (goal.at.returns-in-loop-work g c).In_default in
     lawful (g.S.Surface.bounds c.args.surface.now) c.args.case.now c.args.tol c.args.budget stage.new.units stage.new.work stage.new.basis.at c.rivals-rivals.result.items stage.result c.split_by-split.result
-    c.answer_of.result (sym c.requires.components) c.rivals-rivals.ensures (last g here) c.split_by-split.ensures c.answer_of.ensures (stage.ensures.budget ∙ c.loop-work.invariant.budget)
+    c.answer_of.result (sym c.requires.components) c.rivals-rivals.ensures.rivals (last g here) c.split_by-split.ensures c.answer_of.ensures (stage.ensures.budget ∙ c.loop-work.invariant.budget)
