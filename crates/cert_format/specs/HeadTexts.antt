@@ -1,5 +1,5 @@
 -- The texts of heads: what they say, and the head that a text begins with.
-use Rattle.std.specs.Prelude.{ℕ, ◌==◌, List, [], ◌∷◌, ◌++◌, drop, true, if◌then◌else◌, Option, Some, None, ◌≡◌, ◌⊎◌, Result, Ok, Err}
+use Rattle.std.specs.Prelude.{ℕ, ◌==◌, List, [], ◌∷◌, ◌++◌, length, drop, true, if◌then◌else◌, Option, Some, None, ◌≡◌, ◌≤◌, ◌⊎◌, Result, Ok, Err}
 use Rattle.std.specs.List.{position_or_len}
 use Rattle.cert_format.specs.Lines.{Said, ◌>>=◌, line_text, Fits}
 use Rattle.cert_format.specs.Forms.{word_of, is_named, ranges_of}
@@ -40,15 +40,17 @@ pub data HeadEnd : Type 0 where
   -- the head, and what follows it
   Whole : Draft → List ℕ → HeadEnd
 
+-- where the head goes on, and where it is whole
 abbrev pub after_next : Draft → Option Place → HeadEnd → List ℕ → HeadEnd
 after_next d (Some at) further rest = further
 after_next d None further rest = Whole d rest
 
+-- behind a line: its fault where it can't stand
 abbrev pub after_line : Draft → Option Draft → (Draft → HeadEnd) → List ℕ → HeadEnd
 after_line d None further rest = Wrong (fault_of d)
 after_line d (Some x) further rest = after_next x (next_place x) (further x) rest
 
--- the lines that follow, of the first of which this stands already
+-- the head of which these bytes follow, where the line that is wanted begins with this; a line is judged at its newline
 unfoldable pub head_end : Draft → List ℕ → List ℕ → HeadEnd
 head_end d line [] = CutOff
 head_end d line (b ∷ bytes) =
@@ -61,5 +63,5 @@ line_length text = position_or_len (λ b. b == 10) text
 
 -- what was read: a head and the place behind it, or why there is none
 abbrev pub ReadsHead : List ℕ → Result (Draft × ℕ) CertFault → Type 0
-ReadsHead text (Ok x) = head_end blank [] text ≡ Whole x.0 (drop x.1 text)
+ReadsHead text (Ok x) = (head_end blank [] text ≡ Whole x.0 (drop x.1 text)) × (x.1 ≤ length text)
 ReadsHead text (Err f) = (head_end blank [] text ≡ Wrong f) ⊎ ((head_end blank [] text ≡ CutOff) × (f ≡ fault.Cut))

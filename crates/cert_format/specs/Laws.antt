@@ -22,13 +22,13 @@ pub record FitsAt (d : Draft) (i : ℕ) (s : Said) : Type 0 where
   pub stands : place_at d.shape i ≡ Some place
   pub fits : Fits (is_named place) (ranges_of d.shape.n place) s
 
--- so does every line that was read
+-- each line that was read stands at its place of the final shape, and fits it
 abbrev pub LinesFit : Type 0
 LinesFit =
     (d : Draft) (lines : List (List ℕ)) → with_lines blank lines ≡ Some d → (i : ℕ) → i < length d.said →
     FitsAt d i (slice_index_or d.said i (record { name = []; numbers = [] }))
 
--- so does every number of a line
+-- each number of a line lies in the range that its place has for it
 abbrev pub NumbersFit : Type 0
 NumbersFit =
     (d : Draft) (lines : List (List ℕ)) (place : Place) (i k : ℕ) → with_lines blank lines ≡ Some d → i < length d.said → place_at d.shape i ≡ Some place →
@@ -53,7 +53,7 @@ pub record IsShort (line : List ℕ) : Type 0 where
   pub unbroken : is_one_line line ≡ true
   pub short : length line ≤ 400
 
--- so has each line of a head, and a head at most 37 lines
+-- each line of a head is short, and a head has at most 37 lines
 abbrev pub LinesAreShort : Type 0
 LinesAreShort =
     ((d after : Draft) (line : List ℕ) → with_line d line ≡ Some after → IsShort line)
