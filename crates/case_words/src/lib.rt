@@ -19,6 +19,6 @@ mod words;
 pub use faults::WordFault;
 pub use jobs::{FlashWords, Job};
 pub use keys::Key;
-pub use names::{name_text, read_name};
+pub use names::{name_text, put_name, read_name};
 pub use reading::read_words;
 pub use words::Word;

@@ -1,13 +1,15 @@
 //! Names of components.
 
-ghost use Rattle.std.specs.Prelude.{◌≡◌, ◌&&◌, nat_le, length};
+ghost use Rattle.std.specs.Prelude.{◌≡◌, ◌&&◌, nat_le, length, OnOk};
 ghost use Rattle.std.specs.List.{list_all};
 ghost use Rattle.case_types.specs.Ranges.{is_name_byte};
+ghost use Rattle.dec_text.specs.Appending.{Adds};
 ghost use Rattle.case_words.specs.Answers.{Answers};
 ghost use Rattle.case_words.specs.Names.{text_of, name_of};
 
 use case_types::Name;
 use dec_text::DecFault;
+use std::alloc::AllocError;
 
 /// A name of 1 to 16 bytes out of letters, digits, `_` and `-` of ASCII, or the fault of its text.
 pub fn read_name(text: &[u8]) -> Result<Name, DecFault>
@@ -34,6 +36,17 @@ pub fn name_text(name: &Name) -> &[u8]
     ensures { result.now ≡ text_of name.now }
 {
     &name.bytes[..name.len as usize]
+}
+
+/// Appends a name.
+///
+/// # Errors
+///
+/// Memory is wanting.
+pub fn put_name(out: &mut Vec<u8>, name: &Name) -> Result<(), AllocError>
+    ensures { OnOk result (Adds out.old.items out.new.items (text_of name.now)) }
+{
+    out.extend_from_slice(name_text(name))
 }
 
 /// At most 16 bytes, and none but those of names.

@@ -3,3 +3,5 @@ pub mod DecimalForm
 pub mod FirstFault
 pub mod Signs
 pub mod Zeros
+pub mod WholeText
+pub mod Exports

@@ -4,6 +4,7 @@
 //! more digits. It has at most 24 bytes. Its number is counted in units of the last of the wanted places.
 #![tactic(auto)]
 
+mod appending;
 mod faults;
 mod forms;
 mod printing;
@@ -12,6 +13,7 @@ mod reading;
 mod tests;
 mod wholes;
 
+pub use appending::{put_number, put_text};
 pub use faults::DecFault;
 pub use printing::{Text, fixed, whole};
 pub use reading::{read_dec, read_signed};

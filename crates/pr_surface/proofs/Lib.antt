@@ -1,2 +1,3 @@
 pub mod SurfaceBound
+pub mod Certificates
 pub mod Exports

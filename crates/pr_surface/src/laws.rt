@@ -1,6 +1,6 @@
 //! What the surface bounds, and what lows of its cells promise.
 
-ghost use Rattle.pr_surface.specs.Bounding.{NumbersBound, LowsCertify};
+ghost use Rattle.pr_surface.specs.Bounding.{NumbersBound, LowsCertify, CertificatesCertify};
 
 /// The surface of an accepted case bounds its energy, for every choice of the roots and of the logarithm of e between their
 /// printed ends.
@@ -13,4 +13,9 @@ pub fn numbers_bound()
 /// printed ends.
 pub fn lows_certify()
     ensures { LowsCertify }
+{}
+
+/// What a certificate states of a case makes its split certified, with its upper energy and its gap.
+pub fn certificates_certify()
+    ensures { CertificatesCertify }
 {}

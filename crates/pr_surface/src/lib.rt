@@ -10,7 +10,7 @@ mod splits;
 #[cfg(test)]
 mod tests;
 
-pub use laws::{lows_certify, numbers_bound};
+pub use laws::{certificates_certify, lows_certify, numbers_bound};
 pub use peng_robinson::PengRobinson;
 pub use searching::search;
 pub use splits::split_energy;

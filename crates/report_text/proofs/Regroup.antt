@@ -1,6 +1,6 @@
 -- Appending piece after piece is appending them all.
 use Rattle.std.proofs.Common.{◌≡◌, ℕ, List, [], ◌++◌, append_assoc, append-nil, subst, sym}
-use Rattle.report_text.specs.Pieces.{Adds}
+use Rattle.dec_text.specs.Appending.{Adds}
 
 -- one piece and then the next
 pub adds-then : {o p q a b : List ℕ} → Adds o p a → Adds p q b → Adds o q (a ++ b)

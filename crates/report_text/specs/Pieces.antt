@@ -1,12 +1,8 @@
 -- Pieces of text, one behind the other.
-use Rattle.std.specs.Prelude.{◌≡◌, ℕ, zero, suc, ◌*◌, ◌/◌, ◌^◌, List, [], ◌++◌, pos, codes}
+use Rattle.std.specs.Prelude.{ℕ, zero, suc, ◌*◌, ◌/◌, ◌^◌, List, [], ◌++◌, pos, codes}
 use Rattle.std.specs.Fmt.{signed_decimal}
 use Rattle.dec_text.specs.Printed.{fixed_text}
 use Rattle.log_laws.specs.Between.{Ends}
-
--- some bytes were appended
-pub record Adds (old new bytes : List ℕ) : Type 0 where
-  pub is : new ≡ old ++ bytes
 
 -- the texts of 0, 1, .. below n
 abbrev pub texts_below : ℕ → (ℕ → List ℕ) → List ℕ

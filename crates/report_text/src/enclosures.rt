@@ -2,10 +2,13 @@
 
 ghost use Rattle.std.specs.Prelude.{◌<◌, OnOk};
 ghost use Rattle.case_types.specs.Energy.Printed.{enclosures_in};
-ghost use Rattle.report_text.specs.Pieces.{Adds, texts_below};
+ghost use Rattle.dec_text.specs.Appending.{Adds};
+ghost use Rattle.report_text.specs.Pieces.{texts_below};
 ghost use Rattle.report_text.specs.ReportText.{enclosures_text, temperature_text, pressures_text, pressure_text};
 
-use crate::texts::{put_ends, put_name, put_text};
+use crate::texts::put_ends;
+use case_words::put_name;
+use dec_text::put_text;
 use pr_params::Params;
 use std::alloc::AllocError;
 

@@ -1,14 +1,13 @@
 //! The text of a refusal.
 
 ghost use Rattle.std.specs.Prelude.{◌≡◌, ◌++◌, OnOk, codes};
-ghost use Rattle.report_text.specs.Pieces.{Adds};
+ghost use Rattle.dec_text.specs.Appending.{Adds};
 ghost use Rattle.report_text.specs.RefusalText.{number_fault_text, word_fault_text, table_fault_text, range_fault_text, case_fault_text};
 
-use crate::texts::{put_number, put_text};
 use case_types::ParamFault;
 use case_words::WordFault;
 use component_table::{CaseFault, TableFault};
-use dec_text::DecFault;
+use dec_text::{DecFault, put_number, put_text};
 use itoa::Integer;
 use std::alloc::AllocError;
 

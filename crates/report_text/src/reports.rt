@@ -3,7 +3,8 @@
 ghost use Rattle.std.specs.Prelude.{◌≡◌, ◌^◌, ◌<◌, ◌≤◌, OnOk, IfOk, IsTrue, length};
 ghost use Rattle.std.specs.List.{list_all};
 ghost use Rattle.case_types.specs.Ranges.{are_parts};
-ghost use Rattle.report_text.specs.Pieces.{Adds, texts_below};
+ghost use Rattle.dec_text.specs.Appending.{Adds};
+ghost use Rattle.report_text.specs.Pieces.{texts_below};
 ghost use Rattle.report_text.specs.ReportText.{report_text, flash_text, conditions_text, split_text, phases_text, phase_text, part_text, part_of, parts_of, plane_text, potential_text};
 
 use crate::enclosures::put_enclosures;
@@ -11,11 +12,12 @@ use crate::ends::End;
 use crate::joules::millijoules;
 use crate::refusals::{put_case_fault, put_table_fault, put_word_fault};
 use crate::texts::{
-    head_of, label_of, put_fixed, put_fixed_line, put_line, put_millionths, put_name, put_number,
-    put_text,
+    head_of, label_of, put_fixed, put_fixed_line, put_line, put_millionths,
 };
 use case_types::{Answer, Case, Phase, Plane, SLOTS, Split};
+use case_words::put_name;
 use component_table::Picked;
+use dec_text::{put_number, put_text};
 use density_boxes::moles;
 use pr_params::Params;
 use std::alloc::{AllocError, Global};

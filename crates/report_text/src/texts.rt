@@ -1,40 +1,17 @@
 //! Pieces of text, appended one after the other.
 
 ghost use Rattle.std.specs.Prelude.{◌≡◌, ◌*◌, ◌/◌, ◌^◌, ◌<◌, ◌≤◌, OnOk};
-ghost use Rattle.case_words.specs.Names.{text_of};
 ghost use Rattle.dec_text.specs.Printed.{fixed_text};
-ghost use Rattle.report_text.specs.Pieces.{Adds, line, ends_line, millionths_text};
+ghost use Rattle.dec_text.specs.Appending.{Adds};
+ghost use Rattle.report_text.specs.Pieces.{line, ends_line, millionths_text};
 ghost use Rattle.report_text.specs.ReportText.{state_text, outcome_text};
 ghost use Rattle.log_laws.specs.Interval.{ends_of};
 
-use case_types::{Name, Outcome};
-use case_words::name_text;
-use dec_text::fixed;
-use itoa::{Buffer, Integer};
+use case_types::Outcome;
+use dec_text::{fixed, put_number, put_text};
+use itoa::Integer;
 use log_laws::Iv;
 use std::alloc::AllocError;
-
-/// Appends a text.
-pub fn put_text(out: &mut Vec<u8>, text: &str) -> Result<(), AllocError>
-    ensures { OnOk result (Adds out.old.items out.new.items text.now) }
-{
-    out.extend_from_slice(text.as_bytes())
-}
-
-/// Appends a name.
-pub fn put_name(out: &mut Vec<u8>, name: &Name) -> Result<(), AllocError>
-    ensures { OnOk result (Adds out.old.items out.new.items (text_of name.now)) }
-{
-    out.extend_from_slice(name_text(name))
-}
-
-/// Appends a number.
-pub fn put_number<I: Integer>(out: &mut Vec<u8>, n: I) -> Result<(), AllocError>
-    ensures { OnOk result (Adds out.old.items out.new.items (I.text n)) }
-{
-    let mut buffer = Buffer::new();
-    out.extend_from_slice(buffer.format(n).as_bytes())
-}
 
 /// Appends a label, a number and the end of the line.
 pub fn put_line<I: Integer>(out: &mut Vec<u8>, label: &str, n: I) -> Result<(), AllocError>

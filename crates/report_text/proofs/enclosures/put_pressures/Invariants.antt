@@ -1,5 +1,6 @@
 use Rattle.case_types.specs.Energy.Printed.{enclosures_in}
-use Rattle.report_text.specs.Pieces.{Adds, texts_below}
+use Rattle.dec_text.specs.Appending.{Adds}
+use Rattle.report_text.specs.Pieces.{texts_below}
 use Rattle.report_text.specs.ReportText.{pressures_text}
 use Rattle.report_text.proofs.enclosures.put_pressures.Given as goal
 

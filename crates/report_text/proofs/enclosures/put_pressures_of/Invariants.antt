@@ -1,6 +1,7 @@
 use Rattle.std.proofs.Common.{ℕ, [], nat_lt, cond}
 use Rattle.case_types.specs.Energy.Printed.{enclosures_in}
-use Rattle.report_text.specs.Pieces.{Adds, texts_below}
+use Rattle.dec_text.specs.Appending.{Adds}
+use Rattle.report_text.specs.Pieces.{texts_below}
 use Rattle.report_text.specs.ReportText.{pressure_text}
 use Rattle.report_text.proofs.enclosures.put_pressures_of.Given as goal
 

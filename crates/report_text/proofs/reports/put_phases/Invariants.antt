@@ -1,5 +1,5 @@
 use Rattle.std.proofs.Common.{take}
-use Rattle.report_text.specs.Pieces.{Adds}
+use Rattle.dec_text.specs.Appending.{Adds}
 use Rattle.report_text.specs.ReportText.{phases_text}
 use Rattle.report_text.proofs.reports.put_phases.Given as goal
 

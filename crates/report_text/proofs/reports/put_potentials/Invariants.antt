@@ -1,4 +1,5 @@
-use Rattle.report_text.specs.Pieces.{Adds, texts_below}
+use Rattle.dec_text.specs.Appending.{Adds}
+use Rattle.report_text.specs.Pieces.{texts_below}
 use Rattle.report_text.specs.ReportText.{potential_text}
 use Rattle.report_text.proofs.reports.put_potentials.Given as goal
 

@@ -1,0 +1,4 @@
+pub mod Tests
+pub mod Certificates
+pub mod Judging
+pub mod Streams

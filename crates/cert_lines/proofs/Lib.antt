@@ -1,0 +1,13 @@
+pub mod LineText
+pub mod Numbers
+pub mod Names
+pub mod HeadText
+pub mod LineLength
+pub mod OneLine
+pub mod Shapes
+pub mod FewLines
+pub mod FirstLine
+pub mod NumbersOf
+pub mod WholeHead
+pub mod Listed
+pub mod Exports

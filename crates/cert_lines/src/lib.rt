@@ -1,0 +1,26 @@
+//! The head of a certificate's text, read line by line.
+//!
+//! A certificate says a case, the pairs of its roots and of log2 e, a split with its energy, a plane and how low the energy
+//! lies over it, each on a line of its own, and then the letters of a tree. A line is a word, on some lines a name, and whole
+//! numbers, each behind one space; the numbers have ranges. Version 2 says the edition of the equation, which is that of 1976 in
+//! version 1. A head has one spelling: what is read is exactly what is written.
+#![tactic(auto)]
+
+mod faults;
+mod forms;
+mod laws;
+mod line_reader;
+mod lines;
+mod places;
+mod reading;
+#[cfg(test)]
+mod tests;
+
+pub use faults::CertFault;
+pub use laws::{
+    heads_are_read, heads_are_texts, lines_are_short, lines_fit, numbers_fit, places_stand,
+};
+pub use line_reader::{LineReader, LineStep};
+pub use lines::{Entry, Range};
+pub use places::{Place, Shape};
+pub use reading::read_lines;

@@ -1,0 +1,2 @@
+-- The one door: what the proofs of crates above may cite.
+pub use Rattle.dec_text.proofs.WholeText.{whole_again, whole_takes}
