@@ -1,5 +1,5 @@
 -- Verdicts over a source of bytes.
-use Rattle.std.specs.Prelude.{ℕ, ◌≡◌, ◌×◌, ◌⊎◌, ◌≤◌, ◌<◌, List, length, take, Option, Some}
+use Rattle.std.specs.Prelude.{ℕ, ◌≡◌, ◌×◌, ◌⊎◌, ◌≤◌, ◌<◌, List, length, take, Option, Some, ℤ}
 use Rattle.io_edge.specs.Bytes.{IsSpent}
 use Rattle.io_edge.specs.Causes.{CountsFault}
 use Rattle.cert_lines.specs.declared.faults.CertFault.{CertFault}
@@ -39,7 +39,7 @@ IsTextVerdict bytes v = ((length bytes ≤ limit) × IsVerdict bytes v) ⊎ ((li
 -- the verdict is that on the bytes that were left, where the source tells them; what is accepted was read to its end
 pub record Judges (IsIts : List ℕ → Verdict → Type 0) (left left' : Option (List ℕ)) (faults faults' : ℕ) (v : Verdict) : Type 0 where
   pub told : (bytes : List ℕ) → left ≡ Some bytes → IsIts bytes v
-  pub ended : (u gap : _) → v ≡ verdict.Accepted u gap → IsSpent left'
+  pub ended : (u gap : ℤ) → v ≡ verdict.Accepted u gap → IsSpent left'
   pub no_fault : faults' ≡ faults
 
 -- or a read fault, which was counted

@@ -20,5 +20,5 @@ certified c tol budget a accepted h = certificates_certify c a.split a.u a.plane
   divides = h.divides;
   upper = subst (λ (n : ℕ). a.u ≡ split_up n (energy_up (numbers_of c)) a.split) h.components h.upper;
   over = subst (λ (n : ℕ). IsOver (surface_of (numbers_of c)) a.plane.lam a.low (root_region n)) h.components h.low;
-  gap = h.gap;
+  difference = h.gap;
 })

@@ -17,6 +17,6 @@ certificates_certify c split u lam low gap h = record {
   divides = h.divides;
   at_most = λ x inst. subst (λ z. AtMost (energy_of_division c x (division_of split)) (bits z)) (sym h.upper) (uppers_certify c x split h.accepted inst h.divides);
   at_least = λ x inst other divides.
-      subst (λ z. AtLeast (energy_of_division c x other) (bits z)) (below_upper (plane_at c.n lam c.z c.total) low u gap h.gap)
+      subst (λ z. AtLeast (energy_of_division c x other) (bits z)) (below_upper (plane_at c.n lam c.z c.total) low u gap h.difference)
       (lows_certify c x lam low other h.accepted inst h.over divides);
 }

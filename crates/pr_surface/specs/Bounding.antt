@@ -38,7 +38,7 @@ pub record IsCertificate (c : Case) (split : Split) (u : ℤ) (lam : List ℤ) (
   pub divides : Divides c (division_of split)
   pub upper : u ≡ split_up c.n (energy_up (numbers_of c)) split
   pub over : IsOver (surface_of (numbers_of c)) lam low (root_region c.n)
-  pub gap : gap ≡ (u -ℤ plane_at c.n lam c.z c.total) -ℤ low
+  pub difference : gap ≡ (u -ℤ plane_at c.n lam c.z c.total) -ℤ low
 
 -- so its split is certified with its upper energy and its gap
 abbrev pub CertificatesCertify : Type 0
