@@ -12,3 +12,4 @@ pub use Rattle.pr_params.proofs.ParametersHold.{holds_parameters}
 pub use Rattle.pr_params.proofs.Pull.{times_scaled, times_minus_one}
 pub use Rattle.pr_params.proofs.Right.{enclosures_right}
 pub use Rattle.pr_params.proofs.Sized.{e_ends, scale_split, IsSized, ends_ordered, between_apart, covolume_positive, count_of, each_up_to, mean_attraction_is_fraction}
+pub use Rattle.pr_params.proofs.Components.{interaction_turned, interaction_own}
