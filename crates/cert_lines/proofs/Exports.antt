@@ -8,3 +8,4 @@ pub use Rattle.cert_lines.proofs.NumbersOf.{numbers_fit}
 pub use Rattle.cert_lines.proofs.OneLine.{is_line}
 pub use Rattle.cert_lines.proofs.Shapes.{lines_fit}
 pub use Rattle.cert_lines.proofs.WholeHead.{heads_are_read}
+pub use Rattle.cert_lines.proofs.Within.{edition_each, numbered_each, paired_each, place_within}

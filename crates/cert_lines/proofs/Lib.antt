@@ -10,4 +10,5 @@ pub mod FirstLine
 pub mod NumbersOf
 pub mod WholeHead
 pub mod Listed
+pub mod Within
 pub mod Exports

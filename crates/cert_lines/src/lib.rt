@@ -17,10 +17,11 @@ mod reading;
 mod tests;
 
 pub use faults::CertFault;
+pub use forms::{is_named, word_of};
 pub use laws::{
     heads_are_read, heads_are_texts, lines_are_short, lines_fit, numbers_fit, places_stand,
 };
 pub use line_reader::{LineReader, LineStep};
 pub use lines::{Entry, Range};
-pub use places::{Place, Shape};
+pub use places::{Place, Shape, place_at};
 pub use reading::read_lines;
