@@ -8,3 +8,6 @@ pub use Rattle.case_types.proofs.SplitBound.{phases_at_most}
 pub use Rattle.case_types.proofs.Totals.{total_positive}
 pub use Rattle.case_types.proofs.Walks.{each-map, each-first, each-append, edges-append}
 pub use Rattle.case_types.proofs.States.{state_of-is_state}
+pub use Rattle.case_types.proofs.SameNumbers.{first_below-same, enclosures-same, numbers-same, fault-same}
+pub use Rattle.case_types.proofs.SamePlanes.{plane_at-same, cell_low-same}
+pub use Rattle.case_types.proofs.SameSplits.{phases_up-same, parts_in-same}

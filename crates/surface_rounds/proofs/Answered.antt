@@ -2,7 +2,6 @@
 use Rattle.std.proofs.Common.{◌≡◌, ℕ, ◌^◌, ◌≤◌, List, Some, ℤ, ◌-ℤ◌, to_z, of_z, FitsSigned, unsigned_abs, refl, ◌∙◌, subst, inl, inr, arith}
 use Rattle.std.specs.Int.{w128}
 use Rattle.std.proofs.lemmas.Int.{ints, fits_signed_from_abs}
-use Rattle.log_laws.specs.Whole.{floor_over}
 use Rattle.log_laws.proofs.Exports.{back}
 use Rattle.std.specs.Prelude.{IsSome}
 use Rattle.case_types.specs.declared.answers.Answer.{Answer}
@@ -12,7 +11,6 @@ use Rattle.case_types.specs.declared.cases.Case.{Case}
 use Rattle.case_types.specs.declared.phases.Split.{Split}
 use Rattle.case_types.specs.declared.rounds.Column.{Column}
 use Rattle.case_types.specs.declared.units.Units.{Units}
-use Rattle.case_types.specs.Arithmetic.Bounds.{plane_at, plane_times}
 use Rattle.energy_surface.specs.declared.found.Found.{Found}
 use Rattle.energy_surface.specs.declared.found.Found.TheVariants.{AllClear, Refuted, Spent, Grain}
 use Rattle.energy_surface.specs.Lawful.{IsLawful}
@@ -28,10 +26,6 @@ use Rattle.surface_rounds.specs.Flashing.{IsAfterRounds, IsAfterRound, IsStopped
 use Rattle.surface_rounds.specs.Rivals.{AreRivals}
 use Rattle.surface_rounds.proofs.ChosenSplits.{split_by_guess, split_by_energy}
 use Rattle.surface_rounds.proofs.OnTheWay.{are_columns}
-
-pub plane_at_feed : (c : Case) (lam : List ℤ) (sum result : ℤ) → sum ≡ plane_times c.n lam c.z → result ≡ floor_over sum c.total → result ≡ plane_at c.n lam c.z c.total
-unfolding plane_at
-plane_at_feed c lam sum result e f = rw (f, e) refl
 
 -- ---- the gap
 pub gap_fits : (u at low : ℤ) → unsigned_abs u ≤ 2 ^ 109 → unsigned_abs at ≤ 2 ^ 114 → unsigned_abs low ≤ 2 ^ 107 →
