@@ -1,0 +1,32 @@
+-- The numbers of a phase's line.
+use Rattle.std.proofs.Common.{ℕ, suc, ◌+◌, ◌<◌, ◌^◌, ◌≡◌, true, List, [], ◌∷◌, length, map, take, get_or, slice_index, pos, to_z, ap, sym, ◌∙◌, arith}
+use Rattle.std.specs.Int.{w128}
+use Rattle.std.specs.Prelude.{nat_lt, nat_le}
+use Rattle.std.proofs.lemmas.Bool.{ltb-true}
+use Rattle.std.proofs.lemmas.Int.{to_z_pos}
+use Rattle.std.proofs.lemmas.List.{take-map}
+use Rattle.log_laws.specs.Sums.{all_below, sum_below}
+use Rattle.log_laws.proofs.Exports.{all_below-at, and_true}
+use Rattle.case_types.specs.Ranges.{are_parts}
+
+-- each part is small
+pub part_small : (parts : List ℕ) (i : ℕ) → i < 4 → are_parts parts ≡ true → slice_index parts i < 2 ^ 104
+part_small parts i h is =
+    let each = (and_true (all_below 4 (λ i. nat_lt (slice_index parts i) (2 ^ 104))) (nat_le 1 (sum_below 4 (slice_index parts))) is).0 in
+    ltb-true (slice_index parts i) (2 ^ 104) (all_below-at 4 (λ i. nat_lt (slice_index parts i) (2 ^ 104)) i h each)
+
+-- and is the same number with a sign
+pub part_read : (parts : List ℕ) (i : ℕ) → i < 4 → are_parts parts ≡ true → to_z w128 (slice_index parts i) ≡ pos (slice_index parts i)
+part_read parts i h is = to_z_pos w128 (slice_index parts i) (omega (arith, part_small parts i h is))
+
+-- the packing fraction and the first parts, out of all of them
+pub phase_numbers : (n y : ℕ) (parts : List ℕ) → length parts ≡ 4
+    → take (n + 1) (pos y ∷ pos (slice_index parts 0) ∷ pos (slice_index parts 1) ∷ pos (slice_index parts 2) ∷ pos (slice_index parts 3) ∷ []) ≡ pos y ∷ map pos (take n parts)
+phase_numbers n y (a ∷ b ∷ c ∷ d ∷ []) four =
+    let more : n + 1 ≡ suc n = omega arith in
+    rw more (ap (λ zs. pos y ∷ zs) (take-map pos n (a ∷ b ∷ c ∷ d ∷ [])))
+phase_numbers n y [] four = absurd (omega (arith, four))
+phase_numbers n y (a ∷ []) four = absurd (omega (arith, four))
+phase_numbers n y (a ∷ b ∷ []) four = absurd (omega (arith, four))
+phase_numbers n y (a ∷ b ∷ c ∷ []) four = absurd (omega (arith, four))
+phase_numbers n y (a ∷ b ∷ c ∷ d ∷ e ∷ others) four = absurd (omega (arith, four))
