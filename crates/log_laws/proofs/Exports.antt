@@ -21,7 +21,7 @@ pub use Rattle.log_laws.proofs.Adding.{and_true, and_false, all_below-at, all_be
 pub use Rattle.log_laws.proofs.Adding.{sum_below-same, greatest_below-same}
 -- ---- linear forms of fractions that add up to 1
 pub use Rattle.log_laws.proofs.Linear.{greater_end-high, affine_high-same, affine_low-same, ArePartsBetween, affine_above, affine_below}
-pub use Rattle.log_laws.proofs.Listed.{get_or-list_below, list_below-same}
+pub use Rattle.log_laws.proofs.Listed.{get_or-list_below, length-list_below, list_below-same}
 -- ---- the value of a fraction as a difference of whole numbers over a third
 pub use Rattle.log_laws.proofs.Parts.{IsParts, product_pos, parts_self, parts_ratio, parts_positive, parts_inverse, parts_one, parts_negated, parts_sum, parts_sum_at, parts_product, parts_respelled, parts_of_same}
 pub use Rattle.log_laws.proofs.Parts.{same_of_parts, at_most_of_parts, parts_of_at_most}

@@ -6,7 +6,7 @@ use Rattle.std.proofs.Math.Seq.{get_or-append_seam}
 use Rattle.log_laws.specs.Sums.{list_below}
 
 -- a list over the numbers below n has n items
-length-list_below : {X : Type 0} → (n : ℕ) (f : ℕ → X) → length (list_below n f) ≡ n
+pub length-list_below : {X : Type 0} → (n : ℕ) (f : ℕ → X) → length (list_below n f) ≡ n
 unfolding list_below
 length-list_below zero f = refl
 length-list_below (suc n) f = length-append (list_below n f) (f n ∷ []) ∙ (rw (length-list_below n f) (omega arith))
