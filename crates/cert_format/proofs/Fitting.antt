@@ -1,19 +1,19 @@
 -- What a head says fits the lines that say it.
-use Rattle.std.proofs.Common.{◌≡◌, ℕ, zero, suc, ◌+◌, ◌-◌, ◌^◌, ◌<◌, ◌≤◌, List, [], ◌∷◌, length, get_or, map, take, refl, sym, ap, subst, ◌∙◌, arith, Bool, true, false, ◌&&◌, ◌||◌, ℤ, pos, negsuc, ◌≤ℤ◌, neg_ℤ, slice_index, slice_index_or, Ok, inl, inr}
-use Rattle.std.specs.Prelude.{◌==◌, ◌⊎◌, nat_le, nat_lt, unsigned_abs}
+use Rattle.std.proofs.Common.{◌≡◌, ℕ, zero, suc, ◌+◌, ◌-◌, ◌^◌, ◌<◌, ◌≤◌, List, [], ◌∷◌, length, get_or, map, take, refl, subst, arith, Bool, true, false, ◌&&◌, ◌||◌, ℤ, pos, negsuc, ◌≤ℤ◌, neg_ℤ, slice_index, slice_index_or, Ok, inl, inr}
+use Rattle.std.specs.Prelude.{◌==◌, nat_le, nat_lt, unsigned_abs}
 use Rattle.std.specs.List.{All, list_all}
 use Rattle.std.proofs.lemmas.Int.{ints}
-use Rattle.std.proofs.lemmas.Bool.{leb-true, ltb-true, lt-ltb, eqb-true, and_parts}
+use Rattle.std.proofs.lemmas.Bool.{leb-true, ltb-true, lt-ltb, and_parts}
 use Rattle.std.proofs.lemmas.List.{get_or-take, get_or_default, length-take}
 use Rattle.std.proofs.lemmas.List.Elements.{All-head, All-tail}
 use Rattle.std.proofs.lemmas.List.Sums.{AllPass-from_list_all, list_all-from_AllPass}
 use Rattle.log_laws.specs.Between.{Ends}
 use Rattle.log_laws.specs.Interval.{ends_of}
-use Rattle.log_laws.specs.Sums.{all_below, list_below, sum_below}
+use Rattle.log_laws.specs.Sums.{list_below}
 use Rattle.log_laws.specs.declared.iv.Iv.{Iv}
-use Rattle.log_laws.proofs.Exports.{all_below-at, and_true, get_or-list_below, le-sum_below, length-list_below}
+use Rattle.log_laws.proofs.Exports.{all_below-at, get_or-list_below, le-sum_below, length-list_below}
 use Rattle.case_types.specs.Arithmetic.Tables.{ends_at}
-use Rattle.case_types.specs.Energy.Components.{interaction, feed}
+use Rattle.case_types.specs.Energy.Components.{feed}
 use Rattle.case_types.specs.Energy.Instances.{pair_place}
 use Rattle.case_types.specs.Ranges.{are_parts, is_each_below, is_name, is_name_byte, is_packing}
 use Rattle.case_types.specs.declared.cases.Case.{Case}

@@ -1,5 +1,5 @@
 -- The numbers of a phase's line.
-use Rattle.std.proofs.Common.{ℕ, suc, ◌+◌, ◌<◌, ◌^◌, ◌≡◌, true, List, [], ◌∷◌, length, map, take, get_or, slice_index, pos, to_z, ap, sym, ◌∙◌, arith}
+use Rattle.std.proofs.Common.{ℕ, suc, ◌+◌, ◌<◌, ◌^◌, ◌≡◌, true, List, [], ◌∷◌, length, map, take, slice_index, pos, to_z, ap, arith}
 use Rattle.std.specs.Int.{w128}
 use Rattle.std.specs.Prelude.{nat_lt, nat_le}
 use Rattle.std.proofs.lemmas.Bool.{ltb-true}

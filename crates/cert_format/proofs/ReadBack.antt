@@ -1,14 +1,12 @@
 -- A head that is written is read back.
-use Rattle.std.proofs.Common.{◌≡◌, ℕ, zero, suc, ◌+◌, ◌<◌, ◌≤◌, List, [], ◌∷◌, ◌++◌, length, get_or, map, refl, sym, ap, subst, ◌∙◌, arith, append_assoc, append-nil, Bool, true, false, pos, slice_index, inl, inr, Option, Some, None}
-use Rattle.std.specs.Prelude.{◌⊎◌}
+use Rattle.std.proofs.Common.{◌≡◌, ℕ, zero, suc, ◌+◌, ◌<◌, ◌≤◌, List, [], ◌∷◌, ◌++◌, length, map, refl, sym, ap, subst, ◌∙◌, arith, append_assoc, append-nil, true, inl, inr, Some, None}
 use Rattle.std.specs.List.{All, range_with_len, slice_get}
 use Rattle.std.proofs.lemmas.List.{map-append, length-map, append_cancel_right}
-use Rattle.std.proofs.lemmas.List.Elements.{All-append, All-from_recursion, All-head, All-map, All-nil, All-push, All-tail, All-weaker}
-use Rattle.std.proofs.lemmas.Option.{slice_get_cases}
+use Rattle.std.proofs.lemmas.List.Elements.{All-append, All-from_recursion, All-head, All-map, All-push, All-tail, All-weaker}
 use Rattle.log_laws.specs.Sums.{sum_below}
 use Rattle.case_types.specs.Energy.Components.{feed}
 use Rattle.cert_lines.specs.Forms.{is_named, ranges_of, word_of}
-use Rattle.cert_lines.specs.HeadTexts.{CanSay, Says, head_end, HeadEnd, Whole, with_lines}
+use Rattle.cert_lines.specs.HeadTexts.{CanSay, Says, head_end, HeadEnd, Whole}
 use Rattle.cert_lines.specs.Heads.{Draft, blank, next_place, part_in, put, reshaped, suits}
 use Rattle.cert_lines.specs.Lines.{Fits, Said, line_text}
 use Rattle.cert_lines.specs.Places.{IsPlaceOf, edition_line, numbered, paired, place_at, places}
@@ -16,8 +14,7 @@ use Rattle.cert_lines.specs.declared.places.Place.{Place}
 use Rattle.cert_lines.specs.declared.places.Place.TheVariants.{Version, Temperature, Pressure, Count, Edition as EditionLine, Component, Interaction, RootTwo, LogE, TemperatureRoot, PressureRoot, Split as SplitLine, Phase as PhaseLine, Upper, Plane, Low, Gap, Letters}
 use Rattle.cert_lines.specs.declared.places.Shape.{Shape}
 use Rattle.cert_lines.proofs.Exports.{edition_each, heads_are_read, lines_again, numbered_each, paired_each, places_stand}
-use Rattle.cert_format.specs.Heads.{IsHead, head_text, line_of, said_of, says, shape_of, text_with}
-use Rattle.cert_format.specs.Reading.{IsHeadOf}
+use Rattle.cert_format.specs.Heads.{IsHead, head_text, line_of, said_of, says, shape_of}
 use Rattle.cert_format.specs.Writing.{HeadsAreReadBack, HeadsSayOneThing, IsReadBack, IsSized, TextsSayOneThing}
 use Rattle.cert_format.specs.declared.heads.Head.{Head}
 use Rattle.cert_format.proofs.Fitting.{says_fits}

@@ -1,10 +1,10 @@
 -- What a head says passes the tests of its lines.
-use Rattle.std.proofs.Common.{◌≡◌, ℕ, zero, suc, ◌+◌, ◌<◌, ◌≤◌, List, [], ◌∷◌, length, get_or, map, refl, sym, ap, subst, ◌∙◌, arith, Bool, true, false, not, ◌&&◌, ◌||◌, if◌then◌else◌, ℤ, pos, ◌≤ℤ◌, slice_index, slice_index_or, inl, inr}
-use Rattle.std.specs.Prelude.{◌==◌, ◌⊎◌, nat_le, int_le, int_lt}
-use Rattle.std.specs.List.{All, list_any, list_all}
+use Rattle.std.proofs.Common.{◌≡◌, ℕ, zero, suc, ◌+◌, ◌<◌, ◌≤◌, List, [], ◌∷◌, length, get_or, map, refl, arith, Bool, true, false, not, ◌||◌, if◌then◌else◌, ℤ, pos, ◌≤ℤ◌, slice_index, slice_index_or, inl, inr}
+use Rattle.std.specs.Prelude.{◌==◌, ◌⊎◌, int_le, int_lt}
+use Rattle.std.specs.List.{All, list_any}
 use Rattle.std.specs.Str.{bytes_eq}
 use Rattle.std.proofs.lemmas.Int.{ints}
-use Rattle.std.proofs.lemmas.Bool.{le-leb, lt-ltb, leb-true, and_parts}
+use Rattle.std.proofs.lemmas.Bool.{le-leb, lt-ltb, and_parts}
 use Rattle.std.proofs.lemmas.List.Elements.{All-head, All-tail}
 use Rattle.std.proofs.lemmas.List.Folds.{list_any_none}
 use Rattle.log_laws.specs.Sums.{list_below, sum_below}
@@ -16,16 +16,16 @@ use Rattle.case_types.specs.declared.cases.Edition.{Edition}
 use Rattle.case_types.specs.declared.cases.Edition.TheVariants.{Y1976, Y1978}
 use Rattle.case_types.specs.declared.phases.Phase.{Phase}
 use Rattle.case_words.specs.Names.{are_different, is_name_length}
-use Rattle.cert_lines.specs.Heads.{Draft, blank, has_part, is_new, number_in, part_in, reshaped, suits, up_to}
+use Rattle.cert_lines.specs.Heads.{Draft, has_part, part_in, reshaped, suits, up_to}
 use Rattle.cert_lines.specs.Lines.{Said}
 use Rattle.cert_lines.specs.Places.{IsPlaceOf}
 use Rattle.cert_lines.specs.declared.places.Place.{Place}
 use Rattle.cert_lines.specs.declared.places.Place.TheVariants.{Version, Temperature, Pressure, Count, Edition as EditionLine, Component, Interaction, RootTwo, LogE, TemperatureRoot, PressureRoot, Split as SplitLine, Phase as PhaseLine, Upper, Plane, Low, Gap, Letters}
 use Rattle.cert_lines.specs.declared.places.Shape.{Shape}
-use Rattle.cert_format.specs.Heads.{IsHead, component_said, edition_number, name_of_component, phase_said, saying, says, shape_of}
+use Rattle.cert_format.specs.Heads.{IsHead, edition_number, name_of_component, phase_said, saying, says, shape_of}
 use Rattle.cert_format.specs.Writing.{IsSized}
 use Rattle.cert_format.specs.declared.heads.Head.{Head}
-use Rattle.cert_format.proofs.Fitting.{AreEnds, ends_kept, ends_kept_at, name_long_at}
+use Rattle.cert_format.proofs.Fitting.{ends_kept, ends_kept_at, name_long_at}
 
 -- ---- lines that leave the shape and the feed as they were
 -- a line that says nothing of the shape and has no part of the feed

@@ -3,7 +3,7 @@ use Rattle.std.specs.Int.{w32, w128}
 use Rattle.std.proofs.lemmas.Int.{to_z-of_z}
 use Rattle.std.proofs.lemmas.List.{get_or-map}
 use Rattle.case_types.specs.declared.cases.Row.{Row}
-use Rattle.case_types.specs.Energy.Components.{critical_temperature, critical_pressure, acentric_factor, feed}
+use Rattle.case_types.specs.Energy.Components.{critical_temperature, critical_pressure, acentric_factor}
 use Rattle.case_words.specs.Names.{text_of}
 use Rattle.cert_lines.specs.Lines.{Said}
 use Rattle.cert_format.specs.Heads.{name_of_component}

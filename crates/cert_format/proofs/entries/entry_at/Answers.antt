@@ -1,4 +1,4 @@
-use Rattle.std.proofs.Common.{rules, SFits, ℤ, pos, to_z, ◌≡◌, length, arith}
+use Rattle.std.proofs.Common.{rules, SFits, pos, to_z, ◌≡◌, length, arith}
 use Rattle.std.specs.Int.{w128}
 use Rattle.std.proofs.lemmas.Int.{to_z-of_z, to_z_pos}
 use Rattle.cert_format.specs.Heads.{says, edition_number}

@@ -1,4 +1,4 @@
-use Rattle.std.proofs.Common.{rules, SFits, ℕ, ◌+◌, ◌<◌, ℤ, pos, ap, sym, ◌≡◌, ◌∙◌, length, get_or, List, []}
+use Rattle.std.proofs.Common.{rules, SFits, ◌+◌, pos, ◌≡◌}
 use Rattle.std.specs.Int.{w128}
 use Rattle.std.proofs.lemmas.Int.{to_z-of_z}
 use Rattle.case_types.specs.Energy.Components.{interaction}

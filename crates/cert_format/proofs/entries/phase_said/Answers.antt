@@ -1,6 +1,6 @@
-use Rattle.std.proofs.Common.{rules, SFits, ◌<◌, ◌+◌, ap, ◌≡◌, ◌∙◌, length, take, slice_index, pos, to_z, arith}
+use Rattle.std.proofs.Common.{rules, SFits, ap, ◌≡◌, ◌∙◌, length, arith}
 use Rattle.std.specs.Int.{w128}
-use Rattle.std.proofs.lemmas.Int.{to_z-of_z, to_z_pos}
+use Rattle.std.proofs.lemmas.Int.{to_z-of_z}
 use Rattle.cert_format.specs.Heads.{saying}
 use Rattle.cert_format.proofs.Phases.{part_read, phase_numbers}
 use Rattle.cert_format.proofs.entries.phase_said.Goals as goal

@@ -1,4 +1,4 @@
-use Rattle.std.proofs.Common.{◌≡◌, ◌≤◌, ap, sym, ◌∙◌, take, map, length, arith, subst, List, None}
+use Rattle.std.proofs.Common.{◌≡◌, ap, sym, ◌∙◌, map, arith, List, None}
 use Rattle.std.specs.List.{slice_get}
 use Rattle.std.proofs.lemmas.List.{take_all}
 use Rattle.cert_lines.specs.HeadTexts.{lines_text}

@@ -1,4 +1,3 @@
-use Rattle.std.proofs.Common.{◌≤◌, rules}
 use Rattle.cert_lines.proofs.Exports.{place_within}
 use Rattle.cert_format.specs.Heads.{shape_of}
 use Rattle.cert_format.proofs.writing.put_line_at.Goals as goal

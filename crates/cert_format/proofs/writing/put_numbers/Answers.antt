@@ -1,4 +1,4 @@
-use Rattle.std.proofs.Common.{rules, SFits, get_or, pos, ◌<◌, length}
+use Rattle.std.proofs.Common.{rules, SFits, get_or, pos}
 use Rattle.std.specs.Int.{w128}
 use Rattle.std.proofs.lemmas.Int.{to_z-of_z}
 use Rattle.dec_text.proofs.Exports.{adds-then, adds-as}
