@@ -3,6 +3,7 @@ pub use Rattle.case_types.proofs.BoxOfParts.{in_box_of_parts, parts_top, IsBox, 
 pub use Rattle.case_types.proofs.CellLow.{low_is, box_same}
 pub use Rattle.case_types.proofs.Cover.{in_half, in_root, meets_at, total, has-left, has-right}
 pub use Rattle.case_types.proofs.InBox.{above_plane, in_box, none_above_one}
+pub use Rattle.case_types.proofs.SmallParts.{part_small}
 pub use Rattle.case_types.proofs.PlaneBound.{sums_ordered, plane_at_most}
 pub use Rattle.case_types.proofs.SplitBound.{phases_at_most}
 pub use Rattle.case_types.proofs.Totals.{total_positive}

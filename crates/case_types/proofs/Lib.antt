@@ -16,4 +16,5 @@ pub mod Totals
 pub mod SameNumbers
 pub mod SameSplits
 pub mod SamePlanes
+pub mod SmallParts
 pub mod Exports

@@ -21,6 +21,7 @@ use Rattle.case_types.specs.declared.cases.Edition.{Edition}
 use Rattle.case_types.specs.declared.cases.Edition.TheVariants.{Y1976, Y1978}
 use Rattle.case_types.specs.declared.cases.Row.{Row}
 use Rattle.case_types.specs.declared.phases.Phase.{Phase}
+use Rattle.case_types.proofs.Exports.{part_small}
 use Rattle.case_words.specs.Names.{text_of, name_of, is_name_length}
 use Rattle.pr_params.proofs.Exports.{component_at, interaction_at_least, interaction_at_most}
 use Rattle.cert_lines.specs.Forms.{between, below_size, end, energy, is_named, only, packing, part, ranges_of}
@@ -32,7 +33,7 @@ use Rattle.cert_lines.specs.declared.places.Place.TheVariants.{Version, Temperat
 use Rattle.cert_format.specs.Heads.{IsHead, IsVersionOf, edition_number, name_of_component, phase_said, saying, says, shape_of}
 use Rattle.cert_format.specs.Writing.{IsSized}
 use Rattle.cert_format.specs.declared.heads.Head.{Head}
-use Rattle.cert_format.proofs.Phases.{part_small, phase_numbers}
+use Rattle.cert_format.proofs.Phases.{phase_numbers}
 
 -- ---- numbers in ranges
 in_naturals : (low high v : ℕ) → low ≤ v → v ≤ high → high < 2 ^ 126 → IsIn (between (pos low) (pos high)) (pos v)

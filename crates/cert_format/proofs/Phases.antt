@@ -5,17 +5,10 @@ use Rattle.std.specs.Prelude.{nat_lt, nat_le}
 use Rattle.std.proofs.lemmas.Bool.{ltb-true}
 use Rattle.std.proofs.lemmas.Int.{to_z_pos}
 use Rattle.std.proofs.lemmas.List.{take-map}
-use Rattle.log_laws.specs.Sums.{all_below, sum_below}
-use Rattle.log_laws.proofs.Exports.{all_below-at, and_true}
 use Rattle.case_types.specs.Ranges.{are_parts}
+use Rattle.case_types.proofs.Exports.{part_small}
 
--- each part is small
-pub part_small : (parts : List ℕ) (i : ℕ) → i < 4 → are_parts parts ≡ true → slice_index parts i < 2 ^ 104
-part_small parts i h is =
-    let each = (and_true (all_below 4 (λ i. nat_lt (slice_index parts i) (2 ^ 104))) (nat_le 1 (sum_below 4 (slice_index parts))) is).0 in
-    ltb-true (slice_index parts i) (2 ^ 104) (all_below-at 4 (λ i. nat_lt (slice_index parts i) (2 ^ 104)) i h each)
-
--- and is the same number with a sign
+-- a part is the same number with a sign
 pub part_read : (parts : List ℕ) (i : ℕ) → i < 4 → are_parts parts ≡ true → to_z w128 (slice_index parts i) ≡ pos (slice_index parts i)
 part_read parts i h is = to_z_pos w128 (slice_index parts i) (omega (arith, part_small parts i h is))
 
