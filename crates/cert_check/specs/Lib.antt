@@ -1,4 +1,4 @@
 pub mod Tests
 pub mod Certificates
 pub mod Judging
-pub mod Streams
+pub mod Converse

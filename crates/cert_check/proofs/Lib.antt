@@ -1,0 +1,3 @@
+pub mod SameLows
+pub mod Saying
+pub mod SameHeads
