@@ -10,4 +10,7 @@ pub mod FirstLine
 pub mod NumbersOf
 pub mod WholeHead
 pub mod Listed
+pub mod Entries
+pub mod LinePlaces
+pub mod Suiting
 pub mod Exports

@@ -8,6 +8,7 @@
 
 mod faults;
 mod forms;
+mod indices;
 mod laws;
 mod line_reader;
 mod lines;
@@ -18,7 +19,8 @@ mod tests;
 
 pub use faults::CertFault;
 pub use laws::{
-    heads_are_read, heads_are_texts, lines_are_short, lines_fit, numbers_fit, places_stand,
+    feed_fits, heads_are_read, heads_are_texts, lines_are_found, lines_are_short, lines_fit,
+    lines_suit, numbers_fit, places_are_found, places_stand, whole_heads_have_all,
 };
 pub use line_reader::{LineReader, LineStep};
 pub use lines::{Entry, Range};
