@@ -1,14 +1,13 @@
 -- A head, made of what its lines say.
-use Rattle.std.specs.Prelude.{ℕ, ◌+◌, ◌-◌, ◌^◌, ◌==◌, ◌&&◌, nat_lt, List, [], ◌∷◌, ◌≡◌, length, if◌then◌else◌, ℤ, pos, neg_ℤ, int_le, unsigned_abs, None, Bool, map, IsTrue}
+use Rattle.std.specs.Prelude.{ℕ, ◌+◌, ◌-◌, ◌^◌, ◌==◌, ◌&&◌, nat_lt, List, [], ◌∷◌, ◌≡◌, length, if◌then◌else◌, ℤ, pos, neg_ℤ, int_le, unsigned_abs, None, map}
 use Rattle.log_laws.specs.Between.{Ends}
 use Rattle.log_laws.specs.Interval.{ends}
-use Rattle.std.specs.List.{list_all, range_with_len}
+use Rattle.std.specs.List.{range_with_len}
 use Rattle.case_types.specs.declared.cases.Case.{Case}
 use Rattle.case_types.specs.declared.cases.Row.{Row}
 use Rattle.case_types.specs.declared.cases.Edition.{Edition}
 use Rattle.case_types.specs.declared.cases.Edition.TheVariants.{Y1976, Y1978}
 use Rattle.case_types.specs.declared.phases.Phase.{Phase}
-use Rattle.case_types.specs.Ranges.{is_critical_temperature, is_critical_pressure, is_acentric_factor}
 use Rattle.case_words.specs.Names.{text_of}
 use Rattle.case_types.specs.Arithmetic.Tables.{no_ends}
 use Rattle.cert_lines.specs.Heads.{Draft, next_place, count_of}
@@ -72,23 +71,18 @@ interaction_on d i j = if nat_lt i j then pair_on d i j else (if nat_lt j i then
 abbrev pub edition_on : Draft → Edition
 edition_on d = if d.shape.version == 2 && natural 76 78 (number_on d EditionLine 0) == 78 then Y1978 else Y1976
 
-abbrev pub is_row_in_range : Row → Bool
-is_row_in_range r = is_critical_temperature r.tc && is_critical_pressure r.pc && is_acentric_factor r.w
-
 -- a component
 pub record IsRowOf (d : Draft) (i : ℕ) (r : Row) : Type 0 where
   pub name : text_of r.name ≡ name_on d i
   pub tc : r.tc ≡ temperature_on d i
   pub pc : r.pc ≡ pressure_on d i
   pub w : r.w ≡ factor_on d i
-  pub ranges : IsTrue (is_row_in_range r)
 
 pub record AreRowsOf (d : Draft) (rows : List Row) : Type 0 where
   pub names : map (λ (r : Row). text_of r.name) rows ≡ four (name_on d)
   pub tc : map (λ (r : Row). r.tc) rows ≡ four (temperature_on d)
   pub pc : map (λ (r : Row). r.pc) rows ≡ four (pressure_on d)
   pub w : map (λ (r : Row). r.w) rows ≡ four (factor_on d)
-  pub ranges : IsTrue (list_all is_row_in_range rows)
 
 -- the case that the lines say
 pub record IsCaseOf (d : Draft) (c : Case) : Type 0 where

@@ -1,12 +1,12 @@
 //! The case of a head, made of its lines.
 
-ghost use Rattle.std.specs.Prelude.{◌≡◌, ◌≤◌, ◌<◌, slice_index, neg_ℤ, IsTrue, ℤ, pos};
+ghost use Rattle.std.specs.Prelude.{◌≡◌, ◌≤◌, ◌<◌, slice_index, neg_ℤ, ℤ, pos};
 ghost use Rattle.log_laws.specs.Sums.{sum_below};
 ghost use Rattle.case_words.specs.Names.{text_of};
 ghost use Rattle.cert_lines.specs.Indices.{number_on, said_on};
-ghost use Rattle.cert_format.specs.Building.{IsWhole, IsCaseOf, AreRowsOf, IsRowOf, is_row_in_range, edition_on, four, feed_on, pair_on, interaction_on, held, natural};
+ghost use Rattle.cert_format.specs.Building.{IsWhole, IsCaseOf, AreRowsOf, IsRowOf, edition_on, four, feed_on, pair_on, interaction_on, held, natural};
 
-use crate::line_numbers::{natural, small};
+use crate::line_numbers::{acentric_factor, interaction as held_interaction, natural};
 use case_types::{Case, Edition, Name, Row, SLOTS};
 use cert_lines::{LineReader, Place};
 
@@ -76,13 +76,12 @@ fn live_row(lines: &LineReader, place: Place) -> Row
     ensures tc { result.tc ≡ natural 5000 1500000 (number_on lines.now place 0) }
     ensures pc { result.pc ≡ natural 100000 50000000 (number_on lines.now place 1) }
     ensures w { result.w ≡ held (neg_ℤ (pos 5000)) (pos 15000) (number_on lines.now place 2) }
-    ensures ranges { IsTrue (is_row_in_range result) }
 {
     Row {
         name: lines.name(place),
         tc: natural(5_000, 1_500_000, lines.number(place, 0)),
         pc: natural(100_000, 50_000_000, lines.number(place, 1)),
-        w: small(-5_000, 15_000, lines.number(place, 2)),
+        w: acentric_factor(lines.number(place, 2)),
     }
 }
 
@@ -160,7 +159,7 @@ fn pair(lines: &LineReader, i: u8, j: u8) -> i32
     ensures { result ≡ pair_on lines.now i j }
 {
     if j < lines.components() {
-        small(-5_000, 5_000, lines.number(Place::Interaction(i, j), 2))
+        held_interaction(lines.number(Place::Interaction(i, j), 2))
     } else {
         0
     }

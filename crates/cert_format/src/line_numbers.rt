@@ -56,14 +56,22 @@ pub fn packing(z: i128) -> u64
     held(1, (1 << 40) - 1, z) as u64
 }
 
-/// A small number that may be negative.
-pub fn small(low: i32, high: i32, z: i128) -> i32
-    requires { low ≤ℤ high }
-    ensures value { result ≡ held low high z }
-    ensures low { low ≤ℤ result }
-    ensures high { result ≤ℤ high }
+/// An acentric factor in 1e-4.
+pub fn acentric_factor(z: i128) -> i32
+    ensures value { result ≡ held (neg_ℤ (pos 5000)) (pos 15000) z }
+    ensures low { neg_ℤ (pos 5000) ≤ℤ result }
+    ensures high { result ≤ℤ pos 15000 }
 {
-    held(i128::from(low), i128::from(high), z) as i32
+    held(-5_000, 15_000, z) as i32
+}
+
+/// An interaction in 1e-4.
+pub fn interaction(z: i128) -> i32
+    ensures value { result ≡ bounded 5000 z }
+    ensures low { neg_ℤ (pos 5000) ≤ℤ result }
+    ensures high { result ≤ℤ pos 5000 }
+{
+    held(-5_000, 5_000, z) as i32
 }
 
 /// An energy or a potential, in 2^-40 bit.
