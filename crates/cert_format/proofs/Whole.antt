@@ -1,7 +1,7 @@
 -- The lines of a whole head.
 use Rattle.std.proofs.Common.{◌≡◌, ◌<◌, ◌≤◌, ◌+◌, ◌∙◌, ℕ, zero, suc, ℤ, pos, List, [], ◌∷◌, length, get_or, take, ap, sym, refl, subst, arith, Bool, true, false, Some}
 use Rattle.std.specs.Prelude.{◌≤ℤ◌, if◌then◌else◌, ◌==◌}
-use Rattle.std.proofs.lemmas.Int.{ints}
+use Rattle.std.proofs.lemmas.Bool.{eqb-true}
 use Rattle.cert_lines.specs.declared.lines.Range.{Range}
 use Rattle.cert_lines.specs.declared.places.Place.{Place}
 use Rattle.cert_lines.specs.declared.places.Place.TheVariants.{Version, Temperature, Pressure, Count, Edition, Component, Interaction, RootTwo, LogE, TemperatureRoot, PressureRoot, Split, Phase, Upper, Plane, Low, Gap, Letters}
@@ -103,8 +103,11 @@ pub record IsCounted (d : Draft) : Type 0 where
   pub limit : d.shape.letters ≤ 60000000
 
 positive : (n one : ℕ) → 1 ≤ n → (if n == 0 then one else n) ≡ n
-positive zero one h = absurd (omega (arith, h))
-positive (suc n) one h = refl
+positive n one h = by_test (n == 0) refl
+  where
+    by_test : (b : Bool) → (n == 0) ≡ b → (if b then one else n) ≡ n
+    by_test true e = absurd (omega (arith, h, eqb-true n 0 e))
+    by_test false e = refl
 
 -- a number of the shape, of the number that a line says
 record IsNumber (limit low high n : ℕ) (z : ℤ) : Type 0 where
