@@ -123,7 +123,7 @@ pub four_sum : (n : ℕ) (f : ℕ → ℕ) → n ≤ 4 → sum_below n (slice_in
 four_sum n f few = same_sums n (slice_index (four f)) f (λ i h. four_at f i 0 (omega (arith, h, few)))
 
 -- the parts of the live components are all
-more_sum : (k n : ℕ) (f : ℕ → ℕ) → ((i : ℕ) → n ≤ i → f i ≡ 0) → sum_below (n + k) f ≡ sum_below n f
+pub more_sum : (k n : ℕ) (f : ℕ → ℕ) → ((i : ℕ) → n ≤ i → f i ≡ 0) → sum_below (n + k) f ≡ sum_below n f
 more_sum zero n f h =
     let none : n + 0 ≡ n = omega arith in
     ap (λ (m : ℕ). sum_below m f) none

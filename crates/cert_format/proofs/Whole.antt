@@ -11,7 +11,7 @@ use Rattle.cert_lines.specs.Forms.{is_named, ranges_of}
 use Rattle.cert_lines.specs.Heads.{Draft, number_in, up_to, suits, count_of, letters_of}
 use Rattle.cert_lines.specs.Indices.{index_of, HasLine, said_on, number_on}
 use Rattle.cert_lines.specs.Laws.{IsStated, SuitedAt}
-use Rattle.cert_lines.proofs.Exports.{few, feed_fits, lines_fit, lines_suit, lines_are_found, places_are_found, whole_heads_have_all, some_is}
+use Rattle.cert_lines.proofs.Exports.{few, lines_fit, lines_suit, lines_are_found, numbers_fit, whole_heads_have_all, some_is}
 use Rattle.cert_format.specs.Building.{IsWhole}
 use Rattle.cert_format.proofs.Held.{up_to_is}
 
@@ -150,3 +150,20 @@ is_counted d w =
       lettered = positive d.shape.letters 1 e.least;
       limit = e.most;
     }
+
+-- ---- a number of any line
+pub is_in_range : (d : Draft) → IsWhole d → (here : Place) → HasLine d.shape here → (k : ℕ) → k < length (ranges_of d.shape.n here)
+    → IsIn (get_or (ranges_of d.shape.n here) k (record { low = pos 0; high = pos 0 })) (number_on d here k)
+is_in_range d w here has k h =
+    let i : ℕ = index_of d.shape here in
+    let at : place_at d.shape i ≡ Some here = lines_are_found d.shape (few d w.read.0 w.read.1) here has in
+    numbers_fit d w.read.0 here i k w.read.1 (is_line d w here has).inside at h
+
+as_many : (rs : List Range) (zs : List ℤ) → AreIn rs zs → length zs ≡ length rs
+as_many [] [] h = refl
+as_many [] (z ∷ zs) h = absurd h
+as_many (r ∷ rs) [] h = absurd h
+as_many (r ∷ rs) (z ∷ zs) h = ap (λ (n : ℕ). suc n) (as_many rs zs h.1)
+
+pub number_count : (d : Draft) → IsWhole d → (here : Place) → HasLine d.shape here → length (said_on d here).numbers ≡ length (ranges_of d.shape.n here)
+number_count d w here has = as_many (ranges_of d.shape.n here) (said_on d here).numbers (is_line d w here has).fits.numbers
