@@ -1,5 +1,6 @@
 -- The one door: what the proofs of crates above may cite.
 pub use Rattle.cert_lines.proofs.FewLines.{few_lines}
+pub use Rattle.cert_lines.proofs.FirstLine.{at_line, done, more, no_line, no_text, wrong}
 pub use Rattle.cert_lines.proofs.HeadText.{lines_again, lines_one, lines_take}
 pub use Rattle.cert_lines.proofs.LineLength.{IsFew, IsLong, IsLonger, head_long, long_line, longer}
 pub use Rattle.cert_lines.proofs.LineText.{bind_some, int_le_in, int_le_out, some_is}

@@ -60,8 +60,3 @@ head_end d line (b ∷ bytes) =
 -- how long the line at the front is
 abbrev pub line_length : List ℕ → ℕ
 line_length text = position_or_len (λ b. b == 10) text
-
--- what was read: a head and the place behind it, or why there is none
-abbrev pub ReadsLines : List ℕ → Result (Draft × ℕ) CertFault → Type 0
-ReadsLines text (Ok x) = (head_end blank [] text ≡ Whole x.0 (drop x.1 text)) × (x.1 ≤ length text)
-ReadsLines text (Err f) = (head_end blank [] text ≡ Wrong f) ⊎ ((head_end blank [] text ≡ CutOff) × (f ≡ fault.Cut))

@@ -13,9 +13,6 @@ mod laws;
 mod line_reader;
 mod lines;
 mod places;
-mod reading;
-#[cfg(test)]
-mod tests;
 
 pub use faults::CertFault;
 pub use laws::{
@@ -25,4 +22,3 @@ pub use laws::{
 pub use line_reader::{LineReader, LineStep};
 pub use lines::{Entry, Range};
 pub use places::{Place, Shape};
-pub use reading::read_lines;
