@@ -1,7 +1,7 @@
 -- The case of a whole head keeps the ranges of cases.
-use Rattle.std.proofs.Common.{◌≡◌, ◌<◌, ◌≤◌, ◌+◌, ◌-◌, ◌∙◌, ℕ, zero, suc, ℤ, pos, neg_ℤ, List, [], ◌∷◌, get_or, map, ap, sym, refl, subst, arith, Bool, true, false}
-use Rattle.std.specs.Prelude.{◌≤ℤ◌, if◌then◌else◌, nat_le, nat_lt, int_le, ◌&&◌, slice_index, slice_index_or}
-use Rattle.std.proofs.lemmas.Bool.{le-leb, lt-ltb, ltb-true, cases_lt}
+use Rattle.std.proofs.Common.{◌≡◌, ◌<◌, ◌≤◌, ◌+◌, ◌-◌, ◌∙◌, ℕ, zero, suc, ℤ, pos, neg_ℤ, List, [], get_or, ap, sym, refl, arith, Bool, true, false}
+use Rattle.std.specs.Prelude.{◌≤ℤ◌, if◌then◌else◌, nat_le, nat_lt, int_le, ◌&&◌, slice_index}
+use Rattle.std.proofs.lemmas.Bool.{le-leb, ltb-true}
 use Rattle.log_laws.specs.Sums.{all_below, sum_below}
 use Rattle.log_laws.proofs.Exports.{all_below-from}
 use Rattle.case_types.specs.Ranges.{is_critical_temperature, is_critical_pressure, is_acentric_factor, is_interaction, are_interactions, entry}
@@ -10,7 +10,7 @@ use Rattle.cert_lines.specs.Heads.{Draft, count_of, up_to}
 use Rattle.cert_lines.specs.Indices.{said_on, number_on}
 use Rattle.cert_lines.proofs.Exports.{feed_fits, int_le_in}
 use Rattle.cert_format.specs.Building.{IsWhole, four, among, natural, held, bounded, temperature_on, pressure_on, factor_on, feed_on, pair_on, interaction_on}
-use Rattle.cert_format.proofs.Held.{natural_between, held_between, natural_is, up_to_is, IsBetween}
+use Rattle.cert_format.proofs.Held.{natural_between, held_between, natural_is, up_to_is}
 use Rattle.cert_format.proofs.Live.{of_live, of_other}
 use Rattle.cert_format.proofs.Whole.{is_line, are_four, is_counted}
 
@@ -106,7 +106,7 @@ interactions_in d =
     (own_order (entry rows i j) (entry rows j i) (is i j h g ∙ interaction_turned d i j ∙ sym (is j i g h))))))
     (all_below-from 4 (λ i. int_le (entry rows i i) (pos 0) && int_le (pos 0) (entry rows i i))
     (λ i h. let none : entry rows i i ≡ pos 0 = is i i h h ∙ interaction_own d i in
-        both (int_le (entry rows i i) (pos 0)) (int_le (pos 0) (entry rows i i)) (own_order (entry rows i i) (pos 0) none) (own_order (pos 0) (entry rows i i) (sym none))))
+    both (int_le (entry rows i i) (pos 0)) (int_le (pos 0) (entry rows i i)) (own_order (entry rows i i) (pos 0) none) (own_order (pos 0) (entry rows i i) (sym none))))
 
 -- ---- the feed
 pub feed_some : (d : Draft) (i : ℕ) → i < count_of d → nat_le 1 (feed_on d i) ≡ true

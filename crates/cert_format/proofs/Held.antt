@@ -1,13 +1,13 @@
 -- Numbers held to a range.
-use Rattle.std.proofs.Common.{◌≡◌, ◌<◌, ◌≤◌, ◌+◌, ◌-◌, ◌^◌, ◌∙◌, ℕ, ℤ, pos, neg_ℤ, negsuc, ap, sym, refl, arith, Bool, true, false}
-use Rattle.std.specs.Prelude.{◌≤ℤ◌, unsigned_abs, int_le, ◌&&◌, if◌then◌else◌, nat_le, nat_lt}
+use Rattle.std.proofs.Common.{◌≡◌, ◌≤◌, ℕ, ℤ, pos, refl, arith, Bool, true, false}
+use Rattle.std.specs.Prelude.{◌≤ℤ◌, unsigned_abs, int_le, ◌&&◌, if◌then◌else◌}
 use Rattle.std.proofs.lemmas.Int.{ints}
-use Rattle.std.proofs.lemmas.Bool.{and_parts, le-leb}
+use Rattle.std.proofs.lemmas.Bool.{and_parts}
 use Rattle.cert_lines.specs.Forms.{between}
 use Rattle.cert_lines.specs.Lines.{IsIn}
 use Rattle.cert_lines.specs.Heads.{up_to}
 use Rattle.cert_lines.proofs.Exports.{int_le_in, int_le_out}
-use Rattle.cert_format.specs.Building.{held, natural, bounded}
+use Rattle.cert_format.specs.Building.{held, natural}
 
 pub held_is : (low high z : ℤ) → low ≤ℤ z → z ≤ℤ high → held low high z ≡ z
 held_is low high z l h = rw (int_le_in low z l, int_le_in z high h) refl

@@ -1,29 +1,27 @@
 -- A head that is made of the lines of a whole draft is theirs.
-use Rattle.std.proofs.Common.{◌≡◌, ◌<◌, ◌≤◌, ◌+◌, ◌-◌, ◌^◌, ◌∙◌, ℕ, zero, suc, ℤ, pos, neg_ℤ, List, [], ◌∷◌, ◌++◌, length, get_or, map, take, ap, sym, refl, subst, arith, Bool, true, false, Option, Some, None, inl, inr}
-use Rattle.std.specs.Prelude.{if◌then◌else◌, ◌==◌, ◌&&◌, ◌||◌, ◌⊎◌, not, nat_le, slice_index, unsigned_abs, All}
+use Rattle.std.proofs.Common.{◌≡◌, ◌<◌, ◌-◌, ◌^◌, ◌∙◌, ℕ, zero, suc, ℤ, pos, neg_ℤ, List, [], ◌∷◌, length, get_or, map, take, ap, sym, refl, subst, arith, Bool, true, false, Some, None, inl, inr}
+use Rattle.std.specs.Prelude.{if◌then◌else◌, ◌==◌, ◌&&◌, ◌||◌, not, slice_index, unsigned_abs, All}
 use Rattle.std.specs.List.{list_all, list_any, slice_get}
 use Rattle.std.specs.Str.{bytes_eq}
 use Rattle.std.proofs.lemmas.Bool.{and_parts, cases_lt}
 use Rattle.std.proofs.lemmas.List.{get_or-take, length-append, length-take}
 use Rattle.std.proofs.lemmas.List.FromFn.{length-map-range_with_len}
-use Rattle.std.proofs.lemmas.Option.{slice_get_cases}
 use Rattle.log_laws.specs.Sums.{list_below, sum_below}
 use Rattle.log_laws.proofs.Exports.{get_or-list_below, abs_within}
 use Rattle.case_types.specs.declared.phases.Phase.{Phase}
-use Rattle.case_types.specs.declared.cases.Edition.{Edition}
 use Rattle.case_types.specs.declared.cases.Edition.TheVariants.{Y1976, Y1978}
-use Rattle.case_words.specs.Names.{name_of, is_name_length, are_different}
+use Rattle.case_words.specs.Names.{is_name_length, are_different}
 use Rattle.case_words.proofs.Exports.{name-long}
 use Rattle.cert_lines.specs.declared.places.Place.{Place}
 use Rattle.cert_lines.specs.declared.places.Place.TheVariants.{Component, Edition as EditionLine, Upper, Low, Gap}
 use Rattle.cert_lines.specs.declared.places.Shape.{Shape}
-use Rattle.cert_lines.specs.Places.{places, place_at}
+use Rattle.cert_lines.specs.Places.{places}
 use Rattle.cert_lines.specs.Lines.{Said}
 use Rattle.cert_lines.specs.Heads.{Draft}
-use Rattle.cert_lines.specs.Indices.{index_of, said_on, number_on, HasLine}
-use Rattle.cert_lines.proofs.Exports.{few, lines_fit, places_are_found, places_stand, whole_heads_have_all}
+use Rattle.cert_lines.specs.Indices.{index_of, said_on, number_on}
+use Rattle.cert_lines.proofs.Exports.{few, lines_fit, places_are_found, places_stand}
 use Rattle.cert_format.specs.declared.heads.Head.{Head}
-use Rattle.cert_format.specs.Heads.{says, said_of, shape_of, name_of_component, IsHead, IsVersionOf}
+use Rattle.cert_format.specs.Heads.{says, shape_of, name_of_component, IsVersionOf}
 use Rattle.cert_format.specs.Reading.{IsHeadOf}
 use Rattle.cert_format.specs.Building.{IsWhole, bounded, natural, phase_on, edition_on}
 use Rattle.cert_format.proofs.Held.{held_between}
@@ -59,8 +57,8 @@ all_said d w h m =
     let count = as_many (places d.shape) (length d.said) (sym (places_stand d.shape small (length d.said)) ∙ w.ended)
     (λ i l. let f = lines_fit d lines e i l in (f.place, sym (places_stand d.shape small i) ∙ f.stands)) in
     map_is (says h) (places d.shape) d.said count (λ i p g.
-        let found = places_are_found d.shape small i p (places_stand d.shape small i ∙ g) in
-        tells d w h m p found.0 ∙ ap (λ (k : ℕ). get_or d.said k nothing) found.1)
+    let found = places_are_found d.shape small i p (places_stand d.shape small i ∙ g) in
+    tells d w h m p found.0 ∙ ap (λ (k : ℕ). get_or d.said k nothing) found.1)
 
 same_shape : (d : Draft) → IsWhole d → (h : Head) → IsMadeOf d h → d.shape ≡ shape_of h
 same_shape d w h m =

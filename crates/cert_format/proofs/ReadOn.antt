@@ -1,6 +1,5 @@
 -- A line more.
-use Rattle.std.proofs.Common.{◌≡◌, ℕ, List, [], ◌∷◌, ◌++◌, Some, subst, sym, refl}
-use Rattle.cert_lines.specs.Lines.{◌>>=◌}
+use Rattle.std.proofs.Common.{◌≡◌, ℕ, List, [], ◌∷◌, ◌++◌, Some, refl}
 use Rattle.cert_lines.specs.Heads.{Draft, blank, with_line}
 use Rattle.cert_lines.specs.HeadTexts.{with_lines}
 use Rattle.cert_lines.proofs.Exports.{bind_some, some_is}

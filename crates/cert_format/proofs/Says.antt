@@ -1,7 +1,6 @@
 -- A head that is made of the lines of a whole draft says what they say.
-use Rattle.std.proofs.Common.{◌≡◌, ◌<◌, ◌≤◌, ◌+◌, ◌-◌, ◌^◌, ◌∙◌, ℕ, zero, suc, ℤ, pos, neg_ℤ, List, [], ◌∷◌, ◌++◌, length, get_or, map, take, ap, sym, refl, subst, arith, Bool, true, false, Option, Some, None}
-use Rattle.std.specs.Prelude.{◌≤ℤ◌, if◌then◌else◌, ◌==◌, ◌&&◌, not, int_le, nat_lt, slice_index, slice_index_or}
-use Rattle.std.specs.List.{range_with_len, slice_get}
+use Rattle.std.proofs.Common.{◌≡◌, ◌<◌, ◌≤◌, ◌+◌, ◌-◌, ◌^◌, ◌∙◌, ℕ, zero, suc, ℤ, pos, neg_ℤ, List, [], ◌∷◌, length, get_or, map, take, ap, sym, refl, subst, arith, Bool, true, false}
+use Rattle.std.specs.Prelude.{◌≤ℤ◌, if◌then◌else◌, ◌==◌, ◌&&◌, not, int_le, nat_lt, slice_index_or}
 use Rattle.std.proofs.lemmas.Bool.{eqb-true, eqb-false, eq-eqb, lt-ltb}
 use Rattle.std.proofs.lemmas.List.{take-map, get_or-map, get_or-take}
 use Rattle.std.proofs.lemmas.List.FromFn.{length-map-range_with_len, get_or-map-range_with_len}
@@ -10,22 +9,20 @@ use Rattle.log_laws.specs.Interval.{ends, ends_of}
 use Rattle.case_types.specs.Arithmetic.Tables.{ends_at, no_ends}
 use Rattle.case_types.specs.Energy.Instances.{pair_place}
 use Rattle.case_types.specs.Ranges.{entry}
-use Rattle.case_types.specs.declared.cases.Case.{Case}
 use Rattle.case_types.specs.declared.cases.Edition.{Edition}
 use Rattle.case_types.specs.declared.cases.Edition.TheVariants.{Y1976, Y1978}
 use Rattle.case_types.specs.declared.phases.Phase.{Phase}
-use Rattle.case_words.specs.Names.{text_of}
 use Rattle.cert_lines.specs.declared.lines.Range.{Range}
 use Rattle.cert_lines.specs.declared.places.Place.{Place}
 use Rattle.cert_lines.specs.declared.places.Place.TheVariants.{Version, Temperature, Pressure, Count, Edition as EditionLine, Component, Interaction, RootTwo, LogE, TemperatureRoot, PressureRoot, Split, Phase as PhaseLine, Upper, Plane, Low, Gap, Letters}
-use Rattle.cert_lines.specs.Lines.{Said, IsIn, Fits, AreIn}
-use Rattle.cert_lines.specs.Forms.{between, only, end, energy, ranges_of}
+use Rattle.cert_lines.specs.Lines.{Said, IsIn, Fits}
+use Rattle.cert_lines.specs.Forms.{between, only, end, energy}
 use Rattle.cert_lines.specs.Heads.{Draft, number_in, up_to, count_of, letters_of}
 use Rattle.cert_lines.specs.Indices.{HasLine, said_on, number_on}
 use Rattle.cert_lines.proofs.Exports.{int_le_out}
 use Rattle.cert_format.specs.declared.heads.Head.{Head}
 use Rattle.cert_format.specs.Heads.{saying, ends_said, component_said, phase_said, edition_number, says}
-use Rattle.cert_format.specs.Building.{IsWhole, IsCaseOf, four, six_pairs, among, natural, held, bounded, end_limit, ends_on, temperature_root_on, pressure_root_on, name_on, temperature_on, pressure_on, factor_on, feed_on, pair_on, interaction_on, edition_on, packing_on, part_on, phase_on, phases_on, energy_on, potential_on}
+use Rattle.cert_format.specs.Building.{IsWhole, IsCaseOf, four, six_pairs, natural, held, bounded, end_limit, ends_on, temperature_root_on, pressure_root_on, name_on, temperature_on, pressure_on, factor_on, feed_on, pair_on, interaction_on, edition_on, packing_on, part_on, phase_on, phases_on, energy_on, potential_on}
 use Rattle.cert_format.proofs.Held.{held_is, natural_is, up_to_is}
 use Rattle.cert_format.proofs.Live.{of_live}
 use Rattle.cert_format.proofs.Whole.{is_line, is_counted, are_one, are_two, are_three, are_four, is_in_range, number_count}
@@ -252,8 +249,8 @@ plane_numbers d w =
     let c = is_counted d w in
     let n : ℕ = d.shape.n in
     let each : (i : ℕ) → i < n → potential_on d i ≡ number_on d Plane i = λ i h.
-        let r = subst (λ (s : Range). IsIn s (number_on d Plane i)) (plane_range n i _ c.few h) (is_in_range d w Plane tt i (omega (arith, h, plane_count n c.few))) in
-        of_live d i (energy_on d Plane i) (pos 0) (omega (arith, h, c.counted)) ∙ held_is (neg_ℤ (pos (2 ^ 80 - 1))) (pos (2 ^ 80 - 1)) (number_on d Plane i) r.low r.high in
+    let r = subst (λ (s : Range). IsIn s (number_on d Plane i)) (plane_range n i _ c.few h) (is_in_range d w Plane tt i (omega (arith, h, plane_count n c.few))) in
+    of_live d i (energy_on d Plane i) (pos 0) (omega (arith, h, c.counted)) ∙ held_is (neg_ℤ (pos (2 ^ 80 - 1))) (pos (2 ^ 80 - 1)) (number_on d Plane i) r.low r.high in
     firsts (potential_on d) (said_on d Plane).numbers (pos 0) n (number_count d w Plane tt ∙ plane_count n c.few) c.few each
 
 -- an energy

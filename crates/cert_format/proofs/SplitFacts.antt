@@ -1,26 +1,25 @@
 -- The split and the plane of a whole head.
-use Rattle.std.proofs.Common.{◌≡◌, ◌<◌, ◌≤◌, ◌+◌, ◌-◌, ◌^◌, ◌∙◌, ℕ, zero, suc, ℤ, pos, neg_ℤ, List, [], ◌∷◌, length, get_or, map, take, ap, sym, refl, subst, arith, Bool, true, false, inl, inr}
-use Rattle.std.specs.Prelude.{◌≤ℤ◌, ◌<ℤ◌, ◌⊎◌, if◌then◌else◌, nat_le, nat_lt, int_lt, ◌&&◌, slice_index, All}
+use Rattle.std.proofs.Common.{◌≡◌, ◌<◌, ◌≤◌, ◌+◌, ◌-◌, ◌^◌, ◌∙◌, ℕ, zero, suc, ℤ, pos, List, [], ◌∷◌, length, get_or, map, take, ap, sym, refl, subst, arith, Bool, true, false, inl, inr}
+use Rattle.std.specs.Prelude.{if◌then◌else◌, nat_le, nat_lt, int_lt, ◌&&◌, slice_index, All}
 use Rattle.std.specs.List.{range_with_len, list_all}
 use Rattle.std.proofs.lemmas.Bool.{le-leb, lt-ltb, cases_lt}
 use Rattle.std.proofs.lemmas.List.{get_or-take, get_or_past}
 use Rattle.std.proofs.lemmas.List.FromFn.{length-map-range_with_len, get_or-map-range_with_len}
 use Rattle.log_laws.specs.Sums.{all_below, sum_below}
-use Rattle.log_laws.proofs.Exports.{all_below-from, le-sum_below}
+use Rattle.log_laws.proofs.Exports.{le-sum_below}
 use Rattle.case_types.specs.Ranges.{are_parts, is_packing}
 use Rattle.case_types.specs.declared.phases.Phase.{Phase}
-use Rattle.cert_lines.specs.declared.places.Place.{Place}
-use Rattle.cert_lines.specs.declared.places.Place.TheVariants.{Phase as PhaseLine, Plane}
+use Rattle.cert_lines.specs.declared.places.Place.TheVariants.{Phase as PhaseLine}
 use Rattle.cert_lines.specs.declared.lines.Range.{Range}
 use Rattle.cert_lines.specs.Lines.{Said, IsIn}
-use Rattle.cert_lines.specs.Forms.{between, ranges_of, packing, part, energy}
+use Rattle.cert_lines.specs.Forms.{packing, part}
 use Rattle.cert_lines.specs.Heads.{Draft, count_of, number_in, has_part}
 use Rattle.cert_lines.specs.Indices.{said_on, number_on}
-use Rattle.cert_format.specs.Building.{IsWhole, four, among, natural, held, bounded, packing_on, part_on, phase_on, phases_on, energy_on, potential_on}
-use Rattle.cert_format.proofs.Held.{natural_between, held_is, natural_is}
+use Rattle.cert_format.specs.Building.{IsWhole, four, natural, packing_on, part_on, phase_on, phases_on}
+use Rattle.cert_format.proofs.Held.{natural_between, natural_is}
 use Rattle.cert_format.proofs.Live.{of_live, of_other}
 use Rattle.cert_format.proofs.Whole.{is_line, is_in_range, number_count, is_counted}
-use Rattle.cert_format.proofs.CaseFacts.{four_at, four_sum, more_sum, below_four}
+use Rattle.cert_format.proofs.CaseFacts.{four_sum, more_sum, below_four}
 
 -- ---- the first of four
 pub firsts : {X : Type 0} → (f : ℕ → X) (xs : List X) (x : X) (n : ℕ) → length xs ≡ n → n ≤ 4 → ((i : ℕ) → i < n → f i ≡ get_or xs i x) → take n (four f) ≡ xs

@@ -1,16 +1,16 @@
 -- The lines of a whole head.
-use Rattle.std.proofs.Common.{◌≡◌, ◌<◌, ◌≤◌, ◌+◌, ◌∙◌, ℕ, zero, suc, ℤ, pos, List, [], ◌∷◌, length, get_or, take, ap, sym, refl, subst, arith, Bool, true, false, Some}
+use Rattle.std.proofs.Common.{◌≡◌, ◌<◌, ◌≤◌, ◌∙◌, ℕ, suc, ℤ, pos, List, [], ◌∷◌, length, get_or, ap, sym, refl, subst, arith, Bool, true, false, Some}
 use Rattle.std.specs.Prelude.{◌≤ℤ◌, if◌then◌else◌, ◌==◌}
 use Rattle.std.proofs.lemmas.Bool.{eqb-true}
 use Rattle.cert_lines.specs.declared.lines.Range.{Range}
 use Rattle.cert_lines.specs.declared.places.Place.{Place}
-use Rattle.cert_lines.specs.declared.places.Place.TheVariants.{Version, Temperature, Pressure, Count, Edition, Component, Interaction, RootTwo, LogE, TemperatureRoot, PressureRoot, Split, Phase, Upper, Plane, Low, Gap, Letters}
+use Rattle.cert_lines.specs.declared.places.Place.TheVariants.{Version, Count, Split, Letters}
 use Rattle.cert_lines.specs.Places.{place_at}
-use Rattle.cert_lines.specs.Lines.{Said, AreIn, IsIn, Fits}
+use Rattle.cert_lines.specs.Lines.{AreIn, IsIn, Fits}
 use Rattle.cert_lines.specs.Forms.{is_named, ranges_of}
-use Rattle.cert_lines.specs.Heads.{Draft, number_in, up_to, suits, count_of, letters_of}
+use Rattle.cert_lines.specs.Heads.{Draft, up_to, count_of, letters_of}
 use Rattle.cert_lines.specs.Indices.{index_of, HasLine, said_on, number_on}
-use Rattle.cert_lines.specs.Laws.{IsStated, SuitedAt}
+use Rattle.cert_lines.specs.Laws.{SuitedAt}
 use Rattle.cert_lines.proofs.Exports.{few, lines_fit, lines_suit, lines_are_found, numbers_fit, whole_heads_have_all, some_is}
 use Rattle.cert_format.specs.Building.{IsWhole}
 use Rattle.cert_format.proofs.Held.{up_to_is}

@@ -1,5 +1,5 @@
 -- A head, made of what its lines say.
-use Rattle.std.specs.Prelude.{ℕ, ◌+◌, ◌-◌, ◌^◌, ◌==◌, ◌&&◌, nat_lt, List, [], ◌∷◌, ◌≡◌, length, if◌then◌else◌, ℤ, pos, neg_ℤ, int_le, unsigned_abs, None, map}
+use Rattle.std.specs.Prelude.{ℕ, ◌+◌, ◌-◌, ◌^◌, ◌==◌, ◌&&◌, nat_lt, List, [], ◌∷◌, ◌≡◌, if◌then◌else◌, ℤ, pos, neg_ℤ, int_le, unsigned_abs, None, map}
 use Rattle.log_laws.specs.Between.{Ends}
 use Rattle.log_laws.specs.Interval.{ends}
 use Rattle.std.specs.List.{range_with_len}

@@ -1,11 +1,11 @@
-use Rattle.std.proofs.Common.{◌≡◌, ◌∙◌, ℕ, ◌≤◌, ◌+◌, List, [], ap, sym, subst, pos, arith, rules, SFits}
+use Rattle.std.proofs.Common.{◌≡◌, ◌∙◌, ℕ, ◌≤◌, List, ap, sym, subst, pos, arith, rules, SFits}
 use Rattle.std.specs.Prelude.{nat_le, slice_index}
 use Rattle.std.specs.Int.{w128}
 use Rattle.std.proofs.lemmas.Int.{to_z-of_z}
-use Rattle.log_laws.specs.Sums.{all_below, sum_below}
+use Rattle.log_laws.specs.Sums.{sum_below}
 use Rattle.case_types.specs.Ranges.{is_critical_temperature, is_critical_pressure, is_acentric_factor, are_interactions}
 use Rattle.cert_lines.specs.Heads.{count_of}
-use Rattle.cert_format.specs.Building.{temperature_on, pressure_on, factor_on, feed_on, four, natural, interaction_on}
+use Rattle.cert_format.specs.Building.{temperature_on, pressure_on, factor_on, feed_on, natural}
 use Rattle.cert_format.proofs.CaseFacts.{below_four, temperature_in, pressure_in, factor_in, interactions_in, feed_some, four_sum, feed_sum, feed_limit}
 use Rattle.cert_format.proofs.case_building.case_of.Goals as goal
 
@@ -41,11 +41,11 @@ returns c =
     let fits : SFits w128 c.number.result = search rules in
     let fits_too : SFits w128 c.number-2.result = search rules in
     record {
-  count = c.components.ensures.value;
-  rows = c.rows_of.ensures;
-  interactions = c.interactions_of.ensures;
-  parts = c.feed_of-z.ensures;
-  temperature = c.natural.ensures.value ∙ ap (natural 50000 1500000) (to_z-of_z w128 c.number.result fits ∙ c.number.ensures);
-  pressure = c.natural-2.ensures.value ∙ ap (natural 1000 100000000) (to_z-of_z w128 c.number-2.result fits_too ∙ c.number-2.ensures);
-  edition = c.edition_of.ensures;
-}
+      count = c.components.ensures.value;
+      rows = c.rows_of.ensures;
+      interactions = c.interactions_of.ensures;
+      parts = c.feed_of-z.ensures;
+      temperature = c.natural.ensures.value ∙ ap (natural 50000 1500000) (to_z-of_z w128 c.number.result fits ∙ c.number.ensures);
+      pressure = c.natural-2.ensures.value ∙ ap (natural 1000 100000000) (to_z-of_z w128 c.number-2.result fits_too ∙ c.number-2.ensures);
+      edition = c.edition_of.ensures;
+    }

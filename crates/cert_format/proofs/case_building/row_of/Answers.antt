@@ -1,6 +1,4 @@
-use Rattle.std.proofs.Common.{◌≡◌, ◌∙◌, ◌<◌, sym, ap, true, arith, pos, [], ℤ}
-use Rattle.std.specs.Prelude.{nat_lt, Bool, if◌then◌else◌, List, ℕ}
-use Rattle.std.proofs.lemmas.Bool.{lt-ltb}
+use Rattle.std.proofs.Common.{◌∙◌, ◌<◌, sym, arith}
 use Rattle.cert_lines.specs.Heads.{count_of}
 use Rattle.cert_format.proofs.Live.{of_live}
 use Rattle.cert_format.proofs.case_building.row_of.Goals as goal

@@ -1,5 +1,4 @@
 use Rattle.std.proofs.Common.{subst, sym}
-use Rattle.cert_lines.specs.Heads.{Draft}
 use Rattle.cert_format.specs.Reading.{IsRead}
 use Rattle.cert_format.proofs.ReadOn.{read_on}
 use Rattle.cert_format.proofs.head_reader.HeadReader.line.Goals.{in-More, in-Done, in-Bad}
