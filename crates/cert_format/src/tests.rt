@@ -98,9 +98,11 @@ fn keeps_ends_and_split(rt: HostRuntime) -> Result<(), Fail> {
     };
     assert_eq!(rt; head.params.two.lo, 1_630_477_228_166_597_776);
     assert_eq!(rt; head.params.e.hi, 1_586_260_020_565);
-    assert_eq!(rt; head.params.t[1].lo, 236_452_903_193_789);
-    assert_eq!(rt; head.params.q[0].hi, 17_945_463_005_366_647);
-    assert_eq!(rt; head.params.q[1].hi, 0);
+    let (t, q) = (head.params.t, head.params.q);
+    let (second, first_pair, past) = (t[1].lo, q[0].hi, q[1].hi);
+    assert_eq!(rt; second, 236_452_903_193_789);
+    assert_eq!(rt; first_pair, 17_945_463_005_366_647);
+    assert_eq!(rt; past, 0);
     assert_eq!(rt; head.split.sum, 2_199_023_255_552);
     let Some(phase) = head.split.phases.get(1) else {
         panic!(rt; "two phases");
@@ -122,14 +124,18 @@ fn keeps_pairs_of_three_and_four(rt: HostRuntime) -> Result<(), Fail> {
     let Ok((three, _)) = read_head(THREE.as_bytes()) else {
         panic!(rt; "a head");
     };
-    assert_eq!(rt; three.params.case.k[0], [0, 140, 133, 0]);
-    assert_eq!(rt; three.params.case.k[2], [133, 33, 0, 0]);
-    assert_eq!(rt; three.params.q[1].lo, 17_945_463_005_366_646);
-    assert_eq!(rt; three.params.q[3].lo, 17_247_065_676_808_579);
+    let k = three.params.case.k;
+    assert_eq!(rt; k[0], [0, 140, 133, 0]);
+    assert_eq!(rt; k[2], [133, 33, 0, 0]);
+    let q = three.params.q;
+    let (first_and_third, last) = (q[1].lo, q[3].lo);
+    assert_eq!(rt; first_and_third, 17_945_463_005_366_646);
+    assert_eq!(rt; last, 17_247_065_676_808_579);
     let Ok((four, _)) = read_head(FOUR.as_bytes()) else {
         panic!(rt; "a head");
     };
-    assert_eq!(rt; four.params.case.k[0], [0, -5000, 5000, 0]);
+    let k = four.params.case.k;
+    assert_eq!(rt; k[0], [0, -5000, 5000, 0]);
     assert_eq!(rt; four.params.case.total, 1 << 20);
     assert_eq!(rt; four.u, -(1 << 80) + 1);
     let Ok((one, _)) = read_head(ONE.as_bytes()) else {
