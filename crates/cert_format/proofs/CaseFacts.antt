@@ -3,7 +3,7 @@ use Rattle.std.proofs.Common.{◌≡◌, ◌<◌, ◌≤◌, ◌+◌, ◌-◌, �
 use Rattle.std.specs.Prelude.{◌≤ℤ◌, if◌then◌else◌, nat_le, nat_lt, int_le, ◌&&◌, slice_index}
 use Rattle.std.proofs.lemmas.Bool.{le-leb, ltb-true}
 use Rattle.log_laws.specs.Sums.{all_below, sum_below}
-use Rattle.log_laws.proofs.Exports.{all_below-from}
+use Rattle.log_laws.proofs.Exports.{sum_below-same, all_below-from}
 use Rattle.case_types.specs.Ranges.{is_critical_temperature, is_critical_pressure, is_acentric_factor, is_interaction, are_interactions, entry}
 use Rattle.cert_lines.specs.declared.places.Place.TheVariants.{Component, Interaction}
 use Rattle.cert_lines.specs.Heads.{Draft, count_of, up_to}
@@ -115,12 +115,8 @@ feed_some d i h =
     let one = natural_between 1 1048576 (number_on d (Component i) 3) (omega arith) in
     le-leb 1 (feed_on d i) (omega (arith, is, one.above))
 
-same_sums : (n : ℕ) (f g : ℕ → ℕ) → ((i : ℕ) → i < n → f i ≡ g i) → sum_below n f ≡ sum_below n g
-same_sums zero f g h = refl
-same_sums (suc n) f g h = omega (arith, same_sums n f g (λ i l. h i (omega (arith, l))), h n (omega arith))
-
 pub four_sum : (n : ℕ) (f : ℕ → ℕ) → n ≤ 4 → sum_below n (slice_index (four f)) ≡ sum_below n f
-four_sum n f few = same_sums n (slice_index (four f)) f (λ i h. four_at f i 0 (omega (arith, h, few)))
+four_sum n f few = sum_below-same n (slice_index (four f)) f (λ i h. four_at f i 0 (omega (arith, h, few)))
 
 -- the parts of the live components are all
 pub more_sum : (k n : ℕ) (f : ℕ → ℕ) → ((i : ℕ) → n ≤ i → f i ≡ 0) → sum_below (n + k) f ≡ sum_below n f
@@ -145,7 +141,7 @@ feed_number d w i h =
 pub feed_limit : (d : Draft) → IsWhole d → sum_below 4 (feed_on d) ≤ 1048576
 feed_limit d w =
     let c = is_counted d w in
-    let same = same_sums d.shape.n (feed_on d) (λ i. up_to 1048576 (number_on d (Component i) 3)) (λ i h. as_read i h) in
+    let same = sum_below-same d.shape.n (feed_on d) (λ i. up_to 1048576 (number_on d (Component i) 3)) (λ i h. as_read i h) in
     let few : count_of d ≤ 4 = omega (arith, c.counted, c.few) in
     omega (arith, feed_sum d few, same, ap (λ (n : ℕ). sum_below n (feed_on d)) c.counted, feed_fits d w.read.0 w.read.1 w.ended)
   where

@@ -7,7 +7,7 @@ use Rattle.std.proofs.lemmas.Bool.{and_parts, cases_lt}
 use Rattle.std.proofs.lemmas.List.{get_or-take, length-append, length-take}
 use Rattle.std.proofs.lemmas.List.FromFn.{length-map-range_with_len}
 use Rattle.log_laws.specs.Sums.{list_below, sum_below}
-use Rattle.log_laws.proofs.Exports.{get_or-list_below, abs_within}
+use Rattle.log_laws.proofs.Exports.{length-list_below, get_or-list_below, abs_within}
 use Rattle.case_types.specs.declared.phases.Phase.{Phase}
 use Rattle.case_types.specs.declared.cases.Edition.TheVariants.{Y1976, Y1978}
 use Rattle.case_words.specs.Names.{is_name_length, are_different}
@@ -115,11 +115,6 @@ names_differ d w i j g l =
     let inside : at < end = omega (arith, g) in
     let within : at < length (take end d.said) = omega (arith, inside, here.inside, length-take end d.said) in
     ap p (sym (get_or-take end d.said at nothing inside)) ∙ none_at p (take end d.said) at none_taken within
-
-length-list_below : {X : Type 0} → (n : ℕ) (f : ℕ → X) → length (list_below n f) ≡ n
-unfolding list_below
-length-list_below zero f = refl
-length-list_below (suc n) f = length-append (list_below n f) (f n ∷ []) ∙ rw (length-list_below n f) (omega arith)
 
 -- ---- a head
 small : (z y : ℤ) → z ≡ bounded (2 ^ 80 - 1) y → unsigned_abs z < 2 ^ 80

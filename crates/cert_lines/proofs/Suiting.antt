@@ -5,7 +5,7 @@ use Rattle.std.specs.List.{slice_get}
 use Rattle.std.proofs.lemmas.Bool.{leb-true, and_parts}
 use Rattle.std.proofs.lemmas.List.{length-append, append-nil}
 use Rattle.log_laws.specs.Sums.{sum_below}
-use Rattle.log_laws.proofs.Exports.{sum_below-more, sum_below-fewer}
+use Rattle.log_laws.proofs.Exports.{sum_below-same, sum_below-more, sum_below-fewer}
 use Rattle.cert_lines.specs.declared.places.Place.{Place}
 use Rattle.cert_lines.specs.declared.places.Place.TheVariants.{Version, Temperature, Pressure, Count, Edition, Component, Interaction, RootTwo, LogE, TemperatureRoot, PressureRoot, Split, Phase, Upper, Plane, Low, Gap, Letters}
 use Rattle.cert_lines.specs.declared.places.Shape.{Shape}
@@ -186,10 +186,6 @@ sum_front : (n : ℕ) (f : ℕ → ℕ) → sum_below (suc n) f ≡ f 0 + sum_be
 sum_front zero f = omega arith
 sum_front (suc n) f = omega (arith, sum_front n f)
 
-sum_same : (n : ℕ) (f g : ℕ → ℕ) → ((i : ℕ) → i < n → f i ≡ g i) → sum_below n f ≡ sum_below n g
-sum_same zero f g h = refl
-sum_same (suc n) f g h = omega (arith, sum_same n f g (λ i l. h i (omega (arith, l))), h n (omega arith))
-
 sum_part : (a n m : ℕ) (f : ℕ → ℕ) → a + n ≤ m → sum_below n (λ i. f (a + i)) ≤ sum_below m f
 sum_part a n m f h = omega (arith, joined n, sum_below-fewer (a + n) m f h)
   where
@@ -214,7 +210,7 @@ fed_is d after (s ∷ said) lines f =
     let first : part_at after.shape (length d.said + 0) s ≡ part_in f.0 s = ap (λ (o : Option Place). by_place o s) here in
     let rest = fed_is (put d f.0 s) after said f.1 f.4 in
     let at : (i : ℕ) → length (d.said ++ s ∷ []) + i ≡ length d.said + suc i = λ i. omega (arith, length-append d.said (s ∷ [])) in
-    let same = sum_same n (λ i. part_at after.shape (length (d.said ++ s ∷ []) + i) (get_or said i nothing)) (λ i. part_at after.shape (length d.said + suc i) (get_or said i nothing))
+    let same = sum_below-same n (λ i. part_at after.shape (length (d.said ++ s ∷ []) + i) (get_or said i nothing)) (λ i. part_at after.shape (length d.said + suc i) (get_or said i nothing))
     (λ i l. ap (λ (k : ℕ). part_at after.shape k (get_or said i nothing)) (at i)) in
     let front = sum_front n (λ i. part_at after.shape (length d.said + i) (get_or (s ∷ said) i nothing)) in
     omega (arith, rest, same, front, first)
@@ -250,5 +246,5 @@ feed_fits d lines e whole =
     let next : place_at d.shape (roots_start d.shape) ≡ Some RootTwo = lines_are_found d.shape small RootTwo tt in
     let last : a + d.shape.n ≤ length t.0 = omega (arith, whole_heads_have_all d lines RootTwo (roots_start d.shape) e whole next, ap (λ (l : List Said). length l) t.2) in
     let bound : sum_below d.shape.n (λ i. up_to 1048576 (number_in (get_or d.said (a + i) nothing) 3)) ≤ 1048576 =
-    omega (arith, sum_same d.shape.n (λ i. up_to 1048576 (number_in (get_or d.said (a + i) nothing) 3)) (λ i. f (a + i)) one, sum_part a d.shape.n (length t.0) f last, total, limit) in
+    omega (arith, sum_below-same d.shape.n (λ i. up_to 1048576 (number_in (get_or d.said (a + i) nothing) 3)) (λ i. f (a + i)) one, sum_part a d.shape.n (length t.0) f last, total, limit) in
     bound
