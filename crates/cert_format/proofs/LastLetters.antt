@@ -1,24 +1,19 @@
 -- The letters of the last round of a lawful answer are those of a good tree.
-use Rattle.std.proofs.Common.{◌≡◌, ℕ, zero, suc, ◌-◌, ◌+◌, ◌*◌, ◌<◌, ◌≤◌, List, [], ◌∷◌, ◌++◌, length, take, drop, refl, sym, ap, subst, ◌∙◌, arith, inl, inr, Bool, true, false, not, Option, Some, None, ℤ}
-use Rattle.std.specs.Prelude.{◌⊎◌, ◌&&◌, nat_lt, int_le, slice_get, slice_index, slice_range, get_or}
+use Rattle.std.proofs.Common.{◌≡◌, ℕ, zero, suc, ◌-◌, ◌+◌, ◌*◌, ◌≤◌, List, [], ◌∷◌, ◌++◌, length, take, drop, refl, sym, ap, ◌∙◌, arith, inl, inr, true, false, Some, ℤ}
+use Rattle.std.specs.Prelude.{◌⊎◌, int_le, slice_get, slice_index, slice_range}
 use Rattle.std.proofs.Math.Seq.{get_or-append_seam}
-use Rattle.std.proofs.lemmas.Bool.{le-ltb}
 use Rattle.std.proofs.lemmas.List.{length-append, take-append-drop}
 use Rattle.std.proofs.lemmas.Option.{slice_get-get_or}
 use Rattle.log_laws.specs.Sums.{sum_below}
-use Rattle.case_types.specs.declared.answers.Answer.{Answer}
-use Rattle.case_types.specs.declared.cases.Case.{Case}
 use Rattle.case_types.specs.declared.planes.Plane.{Plane}
 use Rattle.case_types.specs.declared.rounds.Round.{Round}
 use Rattle.case_types.specs.Grid.Cells.{Leaf, Plain, visits, root_region, misses}
 use Rattle.case_types.specs.Grid.Visits.{edges_in}
 use Rattle.case_types.proofs.Exports.{edges-append}
-use Rattle.energy_surface.specs.Lawful.{IsLawful, IsListOfWork}
 use Rattle.energy_surface.specs.Outcomes.{delta_of}
 use Rattle.energy_surface.specs.Rounds.{Own, own_of, IsSearchedRound, IsCutShort}
 use Rattle.energy_surface.specs.Searches.{low_of}
 use Rattle.energy_surface.specs.Surfaces.{Surface, plain_low}
-use Rattle.energy_surface.specs.declared.found.Found.{Found}
 use Rattle.cert_letters.specs.Bounds.{leaf_test}
 use Rattle.cert_letters.specs.Lines.{IsGoodTree}
 use Rattle.cert_letters.specs.Searched.{AreOfTree}

@@ -1,8 +1,6 @@
 -- The numbers of a phase's line.
-use Rattle.std.proofs.Common.{ℕ, suc, ◌+◌, ◌<◌, ◌^◌, ◌≡◌, true, List, [], ◌∷◌, length, map, take, slice_index, pos, to_z, ap, arith}
+use Rattle.std.proofs.Common.{ℕ, suc, ◌+◌, ◌<◌, ◌≡◌, true, List, [], ◌∷◌, length, map, take, slice_index, pos, to_z, ap, arith}
 use Rattle.std.specs.Int.{w128}
-use Rattle.std.specs.Prelude.{nat_lt, nat_le}
-use Rattle.std.proofs.lemmas.Bool.{ltb-true}
 use Rattle.std.proofs.lemmas.Int.{to_z_pos}
 use Rattle.std.proofs.lemmas.List.{take-map}
 use Rattle.case_types.specs.Ranges.{are_parts}

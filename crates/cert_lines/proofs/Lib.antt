@@ -11,4 +11,7 @@ pub mod NumbersOf
 pub mod WholeHead
 pub mod Listed
 pub mod Within
+pub mod Entries
+pub mod LinePlaces
+pub mod Suiting
 pub mod Exports

@@ -304,7 +304,7 @@ then_kept k l s t u h f g = record {
 }
 
 -- from a draft to what it becomes
-later : (d after : Draft) (said : List Said) (lines : List (List ℕ)) → Says d said lines after → IsKept (length d.said) d.shape after.shape
+pub later : (d after : Draft) (said : List Said) (lines : List (List ℕ)) → Says d said lines after → IsKept (length d.said) d.shape after.shape
 unfolding Says
 later d after [] lines f = subst (λ (x : Draft). IsKept (length d.said) d.shape x.shape) (sym f.1) (same (length d.said) d.shape)
 later d after (s ∷ said) lines f =

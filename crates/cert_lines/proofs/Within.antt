@@ -1,5 +1,5 @@
 -- The lines of a shape are of its components and its phases.
-use Rattle.std.proofs.Common.{◌≡◌, ℕ, zero, suc, ◌+◌, ◌<◌, ◌≤◌, List, [], ◌∷◌, ◌++◌, length, get_or, sym, subst, ◌∙◌, arith, lit<, Bool, true, false, if◌then◌else◌, Some}
+use Rattle.std.proofs.Common.{◌≡◌, ℕ, zero, suc, ◌+◌, ◌<◌, ◌≤◌, [], ◌∷◌, get_or, sym, subst, ◌∙◌, arith, lit<, Bool, true, false, if◌then◌else◌, Some}
 use Rattle.std.specs.Prelude.{◌==◌}
 use Rattle.std.specs.List.{All, range_with_len, slice_get}
 use Rattle.std.proofs.lemmas.List.Elements.{All-append, All-from_recursion, All-map, All-nil}
@@ -8,7 +8,7 @@ use Rattle.std.proofs.lemmas.Option.{get_or_from_slice_get, slice_get_within}
 use Rattle.cert_lines.specs.declared.places.Place.{Place}
 use Rattle.cert_lines.specs.declared.places.Place.TheVariants.{Version, Temperature, Pressure, Count, Edition, Component, Interaction, RootTwo, LogE, TemperatureRoot, PressureRoot, Split, Phase, Upper, Plane, Low, Gap, Letters}
 use Rattle.cert_lines.specs.declared.places.Shape.{Shape}
-use Rattle.cert_lines.specs.Places.{places, edition_line, numbered, paired, pairs, IsPlaceOf}
+use Rattle.cert_lines.specs.Places.{places, edition_line, numbered, paired, IsPlaceOf}
 
 pub numbered_each : (P : Place → Type 0) (line : ℕ → Place) (n : ℕ) → ((i : ℕ) → i < n → P (line i)) → All P (numbered line n)
 numbered_each P line n each = All-map P line (range_with_len 0 n) (λ k d h. at k d (omega (arith, h, length-range_with_len 0 n)))

@@ -1,6 +1,7 @@
 //! Heads of certificates that an independent program wrote, and what is refused of heads like them.
 
 use super::*;
+use case_types::Edition;
 use case_words::name_text;
 use std::test::Fail;
 
@@ -38,27 +39,27 @@ const FOUR: &str =
     f 1099511627775 20282409603651670423947251286015 0 0 0\nf 5 0 1 0 0\nf 5 0 0 1 0\nU -1208925819614629174706175\n\
     plane 1208925819614629174706175 0 0 0\nlow 0\ngap 0\ntree 60000000\n";
 
-/// A head, how many lines it has, how many components, and the stated number of letters.
-const READ: [(&str, u32, u8, u32); 4] = [
-    (ONE, 16, 1, 11),
-    (TWO, 20, 2, 191),
-    (THREE, 26, 3, 1),
-    (FOUR, 37, 4, 60_000_000),
+/// A head, its version, how many components and phases it has, and the stated number of letters.
+const READ: [(&str, u8, u8, usize, u32); 4] = [
+    (ONE, 2, 1, 1, 11),
+    (TWO, 1, 2, 2, 191),
+    (THREE, 2, 3, 1, 1),
+    (FOUR, 2, 4, 4, 60_000_000),
 ];
 
 #[test]
 fn reads_heads_of_both_versions(rt: HostRuntime) -> Result<(), Fail> {
-    for (text, lines, components, letters) in READ {
-        let Ok((head, behind)) = read_lines(text.as_bytes()) else {
+    for (text, version, components, phases, letters) in READ {
+        let Ok((head, behind)) = read_head(text.as_bytes()) else {
             panic!(rt; "{text}");
         };
-        assert_eq!(rt; head.lines(), lines, "{text}");
-        assert_eq!(rt; head.entries().len(), lines as usize, "{text}");
-        assert_eq!(rt; head.components(), components, "{text}");
-        assert_eq!(rt; head.letters(), letters, "{text}");
+        assert_eq!(rt; head.version, version, "{text}");
+        assert_eq!(rt; head.params.case.n, components, "{text}");
+        assert_eq!(rt; head.split.phases.len(), phases, "{text}");
+        assert_eq!(rt; head.letters, letters, "{text}");
         // Every text that ends before the head's last newline is cut.
         for end in 0..behind {
-            let cut = read_lines(&text.as_bytes()[..end]).err();
+            let cut = read_head(&text.as_bytes()[..end]).err();
             assert_eq!(rt; cut, Some(CertFault::Cut), "{text} {end}");
         }
     }
@@ -66,27 +67,81 @@ fn reads_heads_of_both_versions(rt: HostRuntime) -> Result<(), Fail> {
 }
 
 #[test]
-fn keeps_what_lines_say(rt: HostRuntime) -> Result<(), Fail> {
-    let Ok((head, behind)) = read_lines(TWO.as_bytes()) else {
+fn keeps_the_case(rt: HostRuntime) -> Result<(), Fail> {
+    let Ok((head, behind)) = read_head(TWO.as_bytes()) else {
         panic!(rt; "a head");
     };
     assert_eq!(rt; &TWO.as_bytes()[behind..], b"yyy1y1pyps".as_slice());
-    // A line, from 1, its name and its numbers.
-    let said: [(usize, &str, &[i128]); 6] = [
-        (1, "", &[1]),
-        (5, "methane", &[190_560, 4_599_000, 110, 1]),
-        (6, "n-butane", &[425_120, 3_796_000, 2000, 1]),
-        (7, "", &[1, 2, 133]),
-        (15, "", &[799_438_760_646, 96_794_947_344, 899_759_100_144]),
-        (16, "", &[-292_754_081_611]),
-    ];
-    for (line, name, numbers) in said {
-        let Some(entry) = head.entries().get(line - 1) else {
-            panic!(rt; "line {line}");
-        };
-        assert_eq!(rt; name_text(&entry.name), name.as_bytes(), "{line}");
-        assert_eq!(rt; entry.numbers.as_slice(), numbers, "{line}");
-    }
+    let case = head.params.case;
+    assert_eq!(rt; case.t, 300_000);
+    assert_eq!(rt; case.p, 2_000_000);
+    assert_eq!(rt; case.edition, Edition::Y1976);
+    assert_eq!(rt; name_text(&case.rows[0].name), b"methane".as_slice());
+    assert_eq!(rt; name_text(&case.rows[1].name), b"n-butane".as_slice());
+    assert_eq!(rt; name_text(&case.rows[2].name), b"".as_slice());
+    assert_eq!(rt; case.rows[1].tc, 425_120);
+    assert_eq!(rt; case.rows[1].pc, 3_796_000);
+    assert_eq!(rt; case.rows[1].w, 2000);
+    assert_eq!(rt; case.z, [1, 1, 0, 0]);
+    assert_eq!(rt; case.total, 2);
+    assert_eq!(rt;
+        case.k,
+        [[0, 133, 0, 0], [133, 0, 0, 0], [0, 0, 0, 0], [0, 0, 0, 0]]
+    );
+    Ok(())
+}
+
+#[test]
+fn keeps_ends_and_split(rt: HostRuntime) -> Result<(), Fail> {
+    let Ok((head, _)) = read_head(TWO.as_bytes()) else {
+        panic!(rt; "a head");
+    };
+    assert_eq!(rt; head.params.two.lo, 1_630_477_228_166_597_776);
+    assert_eq!(rt; head.params.e.hi, 1_586_260_020_565);
+    let (t, q) = (head.params.t, head.params.q);
+    let (second, first_pair, past) = (t[1].lo, q[0].hi, q[1].hi);
+    assert_eq!(rt; second, 236_452_903_193_789);
+    assert_eq!(rt; first_pair, 17_945_463_005_366_647);
+    assert_eq!(rt; past, 0);
+    assert_eq!(rt; head.split.sum, 2_199_023_255_552);
+    let Some(phase) = head.split.phases.get(1) else {
+        panic!(rt; "two phases");
+    };
+    assert_eq!(rt; phase.packing, 799_438_760_646);
+    assert_eq!(rt; phase.parts, [96_794_947_344, 899_759_100_144, 0, 0]);
+    assert_eq!(rt; head.u, -292_754_081_611);
+    assert_eq!(rt;
+        head.plane.lam,
+        [1_243_992_776_516, -1_829_500_939_096, 0, 0]
+    );
+    assert_eq!(rt; head.low, -540_375_259_952);
+    assert_eq!(rt; head.gap, 540_375_259_631);
+    Ok(())
+}
+
+#[test]
+fn keeps_pairs_of_three_and_four(rt: HostRuntime) -> Result<(), Fail> {
+    let Ok((three, _)) = read_head(THREE.as_bytes()) else {
+        panic!(rt; "a head");
+    };
+    let k = three.params.case.k;
+    assert_eq!(rt; k[0], [0, 140, 133, 0]);
+    assert_eq!(rt; k[2], [133, 33, 0, 0]);
+    let q = three.params.q;
+    let (first_and_third, last) = (q[1].lo, q[3].lo);
+    assert_eq!(rt; first_and_third, 17_945_463_005_366_646);
+    assert_eq!(rt; last, 17_247_065_676_808_579);
+    let Ok((four, _)) = read_head(FOUR.as_bytes()) else {
+        panic!(rt; "a head");
+    };
+    let k = four.params.case.k;
+    assert_eq!(rt; k[0], [0, -5000, 5000, 0]);
+    assert_eq!(rt; four.params.case.total, 1 << 20);
+    assert_eq!(rt; four.u, -(1 << 80) + 1);
+    let Ok((one, _)) = read_head(ONE.as_bytes()) else {
+        panic!(rt; "a head");
+    };
+    assert_eq!(rt; one.params.case.edition, Edition::Y1978);
     Ok(())
 }
 
@@ -236,6 +291,6 @@ const REFUSED: [(&str, CertFault); 51] = [
 #[test]
 fn tells_the_first_fault(rt: HostRuntime) {
     for (text, fault) in REFUSED {
-        assert_eq!(rt; read_lines(text.as_bytes()).err(), Some(fault), "{text}");
+        assert_eq!(rt; read_head(text.as_bytes()).err(), Some(fault), "{text}");
     }
 }
