@@ -1,5 +1,5 @@
 -- A head that was read, and what a line of one leads to.
-use Rattle.std.specs.Prelude.{ℕ, ◌≡◌, ◌≤◌, ◌×◌, ◌⊎◌, List, [], length, drop, None, Result, Ok, Err, IsSome}
+use Rattle.std.specs.Prelude.{ℕ, ◌≡◌, ◌≤◌, ◌⊎◌, List, [], length, drop, None, Result, Ok, Err, IsSome}
 use Rattle.cert_lines.specs.Heads.{Draft, blank, next_place, with_line, fault_of}
 use Rattle.cert_lines.specs.HeadTexts.{head_end, Whole, Wrong, CutOff}
 use Rattle.cert_lines.specs.declared.faults.CertFault.{CertFault}
