@@ -5,7 +5,7 @@ ghost use Rattle.log_laws.specs.Whole.{floor_over};
 ghost use Rattle.case_types.specs.Arithmetic.Bounds.{plane_at, plane_times};
 ghost use Rattle.case_types.specs.Grid.Columns.{point_of, plane_at_point};
 
-use case_types::{Column, Plane, SLOTS};
+use case_types::{Case, Column, Plane, SLOTS};
 
 /// Whether the column lies below the plane by more than `delta`.
 pub fn refutes(n: u8, plane: &Plane, delta: i128, column: &Column) -> bool
@@ -16,6 +16,24 @@ pub fn refutes(n: u8, plane: &Plane, delta: i128, column: &Column) -> bool
     ensures { IsTrue result ↔ ((column.now.up +ℤ delta) <ℤ plane_at_point n plane.now.lam (point_of column.now)) }
 {
     (column.up as i128) + delta < plane_on(n, plane, &column.comp)
+}
+
+/// The plane at the feed, rounded down to 2^-40 bit.
+pub fn plane_at_feed(case: &Case, plane: &Plane) -> i128
+    ensures value { result ≡ plane_at case.now.n plane.now.lam case.now.z case.now.total }
+    ensures small { unsigned_abs result ≤ 2 ^ 114 }
+{
+    for_a_mole(plane_sum(case.n, plane, &case.z), case.total)
+}
+
+/// What is for all parts of the feed, for a mole of it: rounded down.
+fn for_a_mole(sum: i128, total: u32) -> i128
+    requires sum { unsigned_abs sum ≤ 2 ^ 114 }
+    requires total { 1 ≤ total }
+    ensures value { result ≡ floor_over sum total }
+    ensures small { unsigned_abs result ≤ 2 ^ 114 }
+{
+    sum.div_euclid(total as i128)
 }
 
 /// The plane of `n` components at a composition in 2^-20, rounded down to 2^-40 bit.

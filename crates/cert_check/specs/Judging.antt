@@ -1,5 +1,5 @@
 -- The verdict on a text, from its first byte.
-use Rattle.std.specs.Prelude.{ℕ, ◌+◌, ◌==◌, ◌×◌, ◌≡◌, List, [], ◌∷◌, ◌++◌, length, codes, if◌then◌else◌, Option, Some, None}
+use Rattle.std.specs.Prelude.{ℕ, ◌+◌, ◌==◌, ◌≡◌, List, [], ◌∷◌, ◌++◌, length, codes, if◌then◌else◌, Option, Some, None}
 use Rattle.std.specs.Str.{bytes_eq}
 use Rattle.cert_letters.specs.Lines.{LineEnd, CutAt, BadAt, FailsAt, Behind, line_end}
 use Rattle.cert_letters.specs.Readings.{fresh}

@@ -1,4 +1,5 @@
 pub mod Tests
-pub mod Certificates
 pub mod Judging
+pub mod Certificates
 pub mod Streams
+pub mod Checking

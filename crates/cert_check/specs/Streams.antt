@@ -1,7 +1,8 @@
 -- Verdicts over a source of bytes.
-use Rattle.std.specs.Prelude.{ℕ, ◌≡◌, ◌×◌, ◌⊎◌, ◌≤◌, ◌<◌, List, length, take, Option, Some, ℤ}
+use Rattle.std.specs.Prelude.{ℕ, ◌+◌, ◌≡◌, ◌⊎◌, ◌≤◌, ◌<◌, List, length, take, Option, Some, None, ℤ}
 use Rattle.io_edge.specs.Bytes.{IsSpent}
 use Rattle.io_edge.specs.Causes.{CountsFault}
+use Rattle.io_edge.specs.Reading.{TakesAtMost, TakesExactly}
 use Rattle.cert_lines.specs.declared.faults.CertFault.{CertFault}
 use Rattle.cert_lines.specs.declared.faults.CertFault.TheVariants as fault
 use Rattle.cert_format.specs.declared.verdicts.Verdict.{Verdict}
@@ -36,20 +37,33 @@ IsStreamVerdict bytes v = ((length bytes ≤ limit) × IsVerdict bytes v) ⊎ Is
 abbrev pub IsTextVerdict : List ℕ → Verdict → Type 0
 IsTextVerdict bytes v = ((length bytes ≤ limit) × IsVerdict bytes v) ⊎ ((limit < length bytes) × (v ≡ verdict.Refused fault.TooLong))
 
--- the verdict is that on the bytes that were left, where the source tells them; what is accepted was read to its end
+-- the verdict is that on the bytes that were left, where the source tells them. What is accepted was read to its end, and no more than
+-- one byte past the limit was taken: that one too where the text is too long
 pub record Judges (IsIts : List ℕ → Verdict → Type 0) (left left' : Option (List ℕ)) (faults faults' : ℕ) (v : Verdict) : Type 0 where
   pub told : (bytes : List ℕ) → left ≡ Some bytes → IsIts bytes v
   pub ended : (u gap : ℤ) → v ≡ verdict.Accepted u gap → IsSpent left'
+  pub most : TakesAtMost (limit + 1) left left'
+  pub long : v ≡ verdict.Refused fault.TooLong → TakesExactly (limit + 1) left left'
   pub no_fault : faults' ≡ faults
 
--- or a read fault, which was counted
+-- a read fault, which was counted
+pub record FailsToRead (left left' : Option (List ℕ)) (faults faults' : ℕ) : Type 0 where
+  pub most : TakesAtMost limit left left'
+  pub fault : CountsFault faults faults'
+
+-- the verdict on a stream, or none where the source failed
+abbrev pub JudgesOrFails : Option (List ℕ) → Option (List ℕ) → ℕ → ℕ → Option Verdict → Type 0
+JudgesOrFails left left' faults faults' (Some v) = Judges IsStreamVerdict left left' faults faults' v
+JudgesOrFails left left' faults faults' None = FailsToRead left left' faults faults'
+
+-- or a read fault
 abbrev pub AnswersStream : Option (List ℕ) → Option (List ℕ) → ℕ → ℕ → Verdict → Type 0
 AnswersStream left left' faults faults' v =
-    Judges IsStreamVerdict left left' faults faults' v ⊎ ((v ≡ verdict.ReadFault) × CountsFault faults faults')
+    Judges IsStreamVerdict left left' faults faults' v ⊎ ((v ≡ verdict.ReadFault) × FailsToRead left left' faults faults')
 
 -- or want of memory
 abbrev pub AnswersText : Option (List ℕ) → Option (List ℕ) → ℕ → ℕ → Verdict → Type 0
 AnswersText left left' faults faults' v =
     Judges IsTextVerdict left left' faults faults' v
-    ⊎ ((v ≡ verdict.ReadFault) × CountsFault faults faults')
-    ⊎ ((v ≡ verdict.Memory) × (faults' ≡ faults))
+    ⊎ ((v ≡ verdict.ReadFault) × FailsToRead left left' faults faults')
+    ⊎ ((v ≡ verdict.Memory) × TakesAtMost (limit + 1) left left' × (faults' ≡ faults))

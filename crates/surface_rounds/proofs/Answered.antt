@@ -29,10 +29,6 @@ use Rattle.surface_rounds.specs.Rivals.{AreRivals}
 use Rattle.surface_rounds.proofs.ChosenSplits.{split_by_guess, split_by_energy}
 use Rattle.surface_rounds.proofs.OnTheWay.{are_columns}
 
-pub plane_at_feed : (c : Case) (lam : List ℤ) (sum result : ℤ) → sum ≡ plane_times c.n lam c.z → result ≡ floor_over sum c.total → result ≡ plane_at c.n lam c.z c.total
-unfolding plane_at
-plane_at_feed c lam sum result e f = rw (f, e) refl
-
 -- ---- the gap
 pub gap_fits : (u at low : ℤ) → unsigned_abs u ≤ 2 ^ 109 → unsigned_abs at ≤ 2 ^ 114 → unsigned_abs low ≤ 2 ^ 107 →
     FitsSigned w128 (to_z w128 (of_z w128 (to_z w128 (of_z w128 u) -ℤ to_z w128 (of_z w128 at))) -ℤ to_z w128 (of_z w128 low))

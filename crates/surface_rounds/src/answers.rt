@@ -1,14 +1,12 @@
 //! The answer of a flash.
 
 ghost use Rattle.std.specs.Prelude.{◌≡◌, ◌≤◌, ◌^◌, IsSome, IfSome, unsigned_abs};
-ghost use Rattle.log_laws.specs.Whole.{floor_over};
-ghost use Rattle.case_types.specs.Arithmetic.Bounds.{plane_at};
 ghost use Rattle.energy_surface.specs.Searches.{low_of};
 ghost use Rattle.surface_rounds.specs.Answering.{IsAnswerOf};
 
 use crate::stages::Stage;
-use box_search::plane_sum;
-use case_types::{Answer, Case, Outcome, Plane, Split, Units, Work};
+use box_search::plane_at_feed;
+use case_types::{Answer, Case, Outcome, Split, Units, Work};
 use energy_surface::Found;
 
 /// The answer of a flash whose last round is this one, with the split that it chooses.
@@ -31,26 +29,8 @@ pub fn answer_of(case: &Case, split: Split, stage: &Stage, units: &Units, work: 
         u,
         plane: stage.plane,
         low,
-        gap: u - at_feed(case, &stage.plane) - low,
+        gap: u - plane_at_feed(case, &stage.plane) - low,
         units: units.spent,
         work,
     }
-}
-
-/// The plane at the feed, rounded down to 2^-40 bit.
-fn at_feed(case: &Case, plane: &Plane) -> i128
-    ensures value { result ≡ plane_at case.now.n plane.now.lam case.now.z case.now.total }
-    ensures small { unsigned_abs result ≤ 2 ^ 114 }
-{
-    for_a_mole(plane_sum(case.n, plane, &case.z), case.total)
-}
-
-/// What is for all parts of the feed, for a mole of it: rounded down.
-fn for_a_mole(sum: i128, total: u32) -> i128
-    requires sum { unsigned_abs sum ≤ 2 ^ 114 }
-    requires total { 1 ≤ total }
-    ensures value { result ≡ floor_over sum total }
-    ensures small { unsigned_abs result ≤ 2 ^ 114 }
-{
-    sum.div_euclid(total as i128)
 }

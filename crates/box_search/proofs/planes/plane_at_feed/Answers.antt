@@ -1,8 +1,8 @@
 use Rattle.std.proofs.Common.{◌∙◌, arith}
 use Rattle.log_laws.proofs.Exports.{back}
 use Rattle.case_types.proofs.Exports.{total_positive}
-use Rattle.surface_rounds.proofs.Answered.{plane_at_feed}
-use Rattle.surface_rounds.proofs.answers.at_feed.Goals as goal
+use Rattle.box_search.proofs.PlaneAt.{plane_at_feed}
+use Rattle.box_search.proofs.planes.plane_at_feed.Goals as goal
 
 pub for_a_mole-requires-clause-total : goal.for_a_mole-requires-clause-total
 for_a_mole-requires-clause-total c = total_positive c.args.case.now
