@@ -6,6 +6,7 @@ use Rattle.cert_lines.specs.Heads.{Draft, next_place}
 use Rattle.cert_lines.specs.HeadTexts.{head_end}
 use Rattle.cert_format.specs.declared.heads.Head.{Head}
 use Rattle.cert_format.specs.declared.verdicts.Verdict.{Verdict}
+use Rattle.cert_format.specs.Heads.{IsHead}
 use Rattle.cert_check.specs.declared.tail.Part.{Part}
 use Rattle.cert_check.specs.declared.tail.Part.TheVariants as part
 use Rattle.cert_check.specs.Judging.{IsVerdictAfter, verdict_behind_letters, verdict_at_end, verdict_behind_end}
@@ -38,9 +39,11 @@ verdict_in part.Letters s bytes = verdict_behind_letters s.head (line_end (passe
 verdict_in part.Closing s bytes = verdict_at_end s.head s.line bytes
 verdict_in part.Closed s bytes = verdict_behind_end s.head bytes
 
--- no `end` has begun before its line
-abbrev pub IsBegun : TailState → Type 0
-IsBegun s = (s.reading.left ≤ s.head.letters) × (s.part ≡ part.Letters → s.line ≡ [])
+-- no more letters are left than the head states, and no `end` has begun before its line
+pub record IsBegun (s : TailState) : Type 0 where
+  pub head : IsHead s.head
+  pub left : s.reading.left ≤ s.head.letters
+  pub line : s.part ≡ part.Letters → s.line ≡ []
 
 -- what the next byte leads to: a verdict that doesn't rest on what follows it, or a state that has the same verdicts left
 abbrev pub TailTakes : TailState → ℕ → TailState → Option Verdict → Type 0

@@ -1,12 +1,13 @@
 //! The leaves of a certificate.
 
-ghost use Rattle.std.specs.Prelude.{◌≡◌, ◌≤◌, ◌^◌, unsigned_abs, IsFalse, IfSome};
+ghost use Rattle.std.specs.Prelude.{◌≡◌, ◌≤◌, ◌<◌, ◌^◌, ◌-ℤ◌, unsigned_abs, IsFalse};
+ghost use Rattle.case_types.specs.Arithmetic.Bounds.{box_of};
 ghost use Rattle.case_types.specs.Grid.Cells.{region_of, misses};
 ghost use Rattle.cert_letters.specs.Bounds.{leaf_test, is_low_above};
 ghost use Rattle.cert_letters.specs.Steps.{mark_of};
 ghost use Rattle.energy_surface.specs.Surfaces.{plain_low, slope_low};
 
-use case_types::{Cell, Plane};
+use case_types::{BoxX, Cell, Plane};
 use cert_letters::LeafHow;
 use density_boxes::{cell_box, misses, plane_hi};
 use energy_surface::Surface;
@@ -39,8 +40,28 @@ pub fn low_plain<S: Surface>(surface: &S, plane: &Plane, cell: &Cell) -> i128
 {
     let n = surface.count();
     let x = cell_box(n, cell);
-    let mix = surface.mix_low(&x);
-    surface.low(&mix, &surface.logs(cell.ylo), &surface.logs(cell.yhi)) - plane_hi(n, plane, &x)
+    above(energy_over(surface, &x, cell), plane_hi(n, plane, &x))
+}
+
+/// The energy over the box and the packing fractions of the cell is at least this.
+fn energy_over<S: Surface>(surface: &S, x: &BoxX, cell: &Cell) -> i128
+    ensures value { result ≡ (S.bounds surface.now).low (box_of x.now) cell.now.ylo cell.now.yhi }
+    ensures small { unsigned_abs result ≤ 2 ^ 106 }
+{
+    let mix = surface.mix_low(x);
+    let from = surface.logs(cell.ylo);
+    let to = surface.logs(cell.yhi);
+    surface.low(&mix, &from, &to)
+}
+
+/// The energy less the plane.
+fn above(energy: i128, plane: i128) -> i128
+    requires energy { unsigned_abs energy ≤ 2 ^ 106 }
+    requires plane { unsigned_abs plane < 2 ^ 80 }
+    ensures value { result ≡ energy -ℤ plane }
+    ensures small { unsigned_abs result ≤ 2 ^ 107 }
+{
+    energy - plane
 }
 
 /// The slope low of the cell, where there is one.

@@ -69,6 +69,7 @@ impl Tail {
     }
 
     /// Takes the next byte.
+    #[tactic(auto, unfolding(crate::specs::Judging::verdict_behind_end))]
     pub fn take(&mut self, logs: Logarithms, byte: u8) -> Option<Verdict>
         ensures { TailTakes self.old byte self.new result }
     {
@@ -80,6 +81,7 @@ impl Tail {
     }
 
     /// The verdict where the text ends.
+    #[tactic(auto, unfolding(cert_letters::specs::Lines::line_end, crate::specs::Judging::verdict_at_end, crate::specs::Judging::verdict_behind_end))]
     pub fn end(&self) -> Verdict
         ensures { result ≡ verdict_in self.now.part self.now [] }
     {

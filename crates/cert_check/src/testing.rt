@@ -1,6 +1,8 @@
 //! The tests of a head beside its form.
 
-ghost use Rattle.std.specs.Prelude.{◌≡◌, ◌≤◌, ◌<◌, ◌^◌, true, false, map, Some, None, IfSome, IfNone, IfOk, IfErr, unsigned_abs};
+ghost use Rattle.std.specs.Prelude.{◌≡◌, ◌≤◌, ◌<◌, ◌^◌, ◌-ℤ◌, true, false, map, Some, None, IfSome, IfNone, IfOk, IfErr, unsigned_abs};
+ghost use Rattle.std.specs.Ordering.{int_eq};
+ghost use Rattle.case_types.specs.Arithmetic.Bounds.{plane_at};
 ghost use Rattle.log_laws.specs.Interval.{ends_of};
 ghost use Rattle.log_laws.specs.Sums.{all_below};
 ghost use Rattle.case_types.specs.Arithmetic.Numbers.{enclosures_of};
@@ -162,18 +164,36 @@ fn pair_place(i: usize, j: usize) -> usize
 
 /// The stated energy is that of the split.
 fn is_energy(head: &Head, params: &Params) -> bool
+    requires head { IsHead head.now }
     requires same { params.now.case ≡ head.now.params.case }
     requires divides { Divides head.now.params.case (division_of head.now.split) }
     ensures { result ≡ is_energy head.now }
 {
-    head.u == split_energy(params, &head.split)
+    is_same(head.u, split_energy(params, &head.split))
 }
 
 /// The stated gap is the energy, less the plane at the feed, less the low.
 fn is_gap(head: &Head) -> bool
-    requires u { unsigned_abs head.now.u < 2 ^ 80 }
-    requires low { unsigned_abs head.now.low < 2 ^ 80 }
+    requires { IsHead head.now }
     ensures { result ≡ is_gap head.now }
 {
-    head.gap == head.u - plane_at_feed(&head.params.case, &head.plane) - head.low
+    is_same(head.gap, gap_of(head))
+}
+
+/// The energy, less the plane at the feed, less the low.
+fn gap_of(head: &Head) -> i128
+    requires { IsHead head.now }
+    ensures value { result ≡ (head.now.u -ℤ plane_at head.now.params.case.n head.now.plane.lam head.now.params.case.z head.now.params.case.total) -ℤ head.now.low }
+    ensures small { unsigned_abs result ≤ 2 ^ 116 }
+{
+    head.u - plane_at_feed(&head.params.case, &head.plane) - head.low
+}
+
+/// The numbers are the same.
+fn is_same(a: i128, b: i128) -> bool
+    requires one { unsigned_abs a ≤ 2 ^ 116 }
+    requires other { unsigned_abs b ≤ 2 ^ 116 }
+    ensures { result ≡ int_eq a b }
+{
+    a == b
 }

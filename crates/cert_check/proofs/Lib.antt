@@ -1,0 +1,9 @@
+pub mod LetterSteps
+pub mod LineSteps
+pub mod HeadSteps
+pub mod LineCount
+pub mod Pairs
+pub mod Gaps
+pub mod Balances
+pub mod Running
+pub mod NotTooLong
