@@ -36,7 +36,7 @@ first_found (suc n) f i x h none found =
       | inr more ↦ let e : n ≡ i = omega (arith, h, more) in rw (e, none) found
     ]
 
-or_else_none : {X : Type 0} → (a b : Option X) → or_else a b ≡ None → (a ≡ None) × (b ≡ None)
+pub or_else_none : {X : Type 0} → (a b : Option X) → or_else a b ≡ None → (a ≡ None) × (b ≡ None)
 or_else_none None b e = (refl, e)
 or_else_none (Some x) b e = absurd (cc e)
 

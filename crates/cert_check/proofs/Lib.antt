@@ -5,5 +5,8 @@ pub mod LineCount
 pub mod Pairs
 pub mod Gaps
 pub mod Balances
+pub mod CheckerSteps
 pub mod Running
+pub mod Certifies
+pub mod Accepted
 pub mod NotTooLong

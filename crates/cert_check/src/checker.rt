@@ -88,13 +88,16 @@ impl<'a> Checker<'a> {
                 self.line.clear();
                 None
             }
-            HeadStep::Done(head) => match tail_of(head) {
-                Ok(tail) => {
-                    self.tail = Some(tail);
-                    None
+            HeadStep::Done(head) => {
+                self.reader = HeadReader::new();
+                match tail_of(head) {
+                    Ok(tail) => {
+                        self.tail = Some(tail);
+                        None
+                    }
+                    Err(broken) => Some(verdict_of(broken)),
                 }
-                Err(broken) => Some(verdict_of(broken)),
-            },
+            }
             HeadStep::Bad(fault) => Some(Verdict::Refused(fault)),
         }
     }

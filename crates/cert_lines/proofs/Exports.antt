@@ -6,5 +6,5 @@ pub use Rattle.cert_lines.proofs.LineText.{bind_some}
 pub use Rattle.cert_lines.proofs.Listed.{places_stand}
 pub use Rattle.cert_lines.proofs.NumbersOf.{numbers_fit}
 pub use Rattle.cert_lines.proofs.OneLine.{is_line}
-pub use Rattle.cert_lines.proofs.Shapes.{lines_fit}
+pub use Rattle.cert_lines.proofs.Shapes.{IsKept, lines_fit, shape_kept}
 pub use Rattle.cert_lines.proofs.WholeHead.{heads_are_read}

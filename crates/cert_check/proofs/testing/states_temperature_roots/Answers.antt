@@ -2,21 +2,17 @@ use Rattle.std.proofs.Common.{◌≡◌, ◌≤◌, ap, sym, ◌∙◌, arith, l
 use Rattle.log_laws.specs.Interval.{ends_of}
 use Rattle.log_laws.proofs.Exports.{all_below-more, all_below-fails}
 use Rattle.cert_check.specs.Tests.{are_same}
-use Rattle.cert_check.proofs.Pairs.{at, is_stated_temperature, temperature_root}
+use Rattle.cert_check.proofs.Pairs.{is_stated_temperature, temperature_same}
 use Rattle.cert_check.proofs.testing.states_temperature_roots.Goals as goal
 use Rattle.cert_check.proofs.testing.states_temperature_roots.Goals.{After-are_same}
 
 here : (c : After-are_same) → c.are_same.result ≡ is_stated_temperature c.args.stated.now c.loop-i.i
 here c =
     let p = c.args.params.now in
-    let few = p.case.few in
+    let stated = c.args.stated.now in
     let all : 4 ≤ length p.t = search rules in
-    let stated : 4 ≤ length c.args.stated.now.t = search rules in
-    let live = rw (← c.requires) at c.loop-i-test.true in
-    let mine = temperature_root p c.loop-i.i c.index-params-i.result live (omega (arith, few, all)) in
-    let own = at c.args.stated.now.t c.loop-i.i c.index-stated-i.result (omega (arith, live, few, stated)) in
-    let both = rw (own, mine) at c.are_same.ensures in
-    rw (← c.requires) both
+    let stated_all : 4 ≤ length stated.t = search rules in
+    c.are_same.ensures ∙ temperature_same stated p c.loop-i.i c.index-stated-i.result c.index-params-i.result c.requires c.loop-i-test.true stated_all all
 
 pub loop-i-init : goal.loop-i-init
 loop-i-init c = refl
