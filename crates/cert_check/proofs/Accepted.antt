@@ -33,20 +33,20 @@ use Rattle.cert_check.specs.Certificates.{IsGoodText, AcceptedIsGood}
 -- the text behind a line so far, and the numbers of the verdict
 record Ends (h : Head) (rest : List ℕ) (u gap : ℤ) : Type 0 where
   closes : rest ≡ codes "end" ++ 10 ∷ []
-  u : h.u ≡ u
-  gap : h.gap ≡ gap
+  same_u : h.u ≡ u
+  same_gap : h.gap ≡ gap
 
 accepted_is : (u v gap low : ℤ) → Accepted u gap ≡ Accepted v low → (u ≡ v) × (gap ≡ low)
 accepted_is u v gap low e = (cc, cc)
 
 record IsEnd (h : Head) (bytes : List ℕ) (u gap : ℤ) : Type 0 where
   none : bytes ≡ []
-  u : h.u ≡ u
-  gap : h.gap ≡ gap
+  same_u : h.u ≡ u
+  same_gap : h.gap ≡ gap
 
 behind_end : (h : Head) (bytes : List ℕ) (u gap : ℤ) → verdict_behind_end h bytes ≡ Accepted u gap → IsEnd h bytes u gap
 unfolding verdict_behind_end
-behind_end h [] u gap e = let both = accepted_is h.u u h.gap gap e in record { none = refl; u = both.0; gap = both.1 }
+behind_end h [] u gap e = let both = accepted_is h.u u h.gap gap e in record { none = refl; same_u = both.0; same_gap = both.1 }
 behind_end h (b ∷ bytes) u gap e = absurd cc
 
 at_end : (h : Head) (line bytes : List ℕ) (u gap : ℤ) → verdict_at_end h line bytes ≡ Accepted u gap → Ends h (line ++ bytes) u gap
@@ -60,11 +60,11 @@ at_end h line (b ∷ bytes) u gap e = by_byte (b == 10) (bytes_eq line (codes "e
     by_byte true true k l again e =
         let end = behind_end h bytes u gap e in
         let same : line ≡ codes "end" = (bytes_eq-Decides line (codes "end")).0 l in
-        record { closes = rw (same, eqb-true b 10 k, end.none) refl; u = end.u; gap = end.gap }
+        record { closes = rw (same, eqb-true b 10 k, end.none) refl; same_u = end.same_u; same_gap = end.same_gap }
     by_byte true false k l again e = absurd cc
     by_byte false w k l again e =
         let f = again e in
-        record { closes = sym (append_assoc line (b ∷ []) bytes) ∙ f.closes; u = f.u; gap = f.gap }
+        record { closes = sym (append_assoc line (b ∷ []) bytes) ∙ f.closes; same_u = f.same_u; same_gap = f.same_gap }
 
 -- ---- the letters
 record Letters (h : Head) (bytes : List ℕ) (u gap : ℤ) : Type 0 where
@@ -137,7 +137,7 @@ head_lines : (lines : List (List ℕ)) (d : Draft) (h : Head) → with_lines bla
 head_lines lines d h reads of =
     let t = lines_take blank d lines reads in
     let said : t.0 ≡ map (says h) (places (shape_of h)) = sym t.2 ∙ of.said in
-    ap lines_text (written h blank d t.0 lines (places (shape_of h)) t.1 said (λ i. rw of.shape (places_stand (shape_of h) h.params.case.few i)))
+    ap lines_text (written h blank d t.0 lines (places (shape_of h)) t.1 said (λ i. let plain : 0 + i ≡ i = omega arith in rw (plain, of.shape) (places_stand (shape_of h) h.params.case.few i)))
 
 by_end : (text : List ℕ) (x : HeadEnd) (u gap : ℤ) → head_end blank [] text ≡ x → IsVerdictAfter x (Accepted u gap) → (h : Head) × IsGoodText text h × (h.u ≡ u) × (h.gap ≡ gap)
 by_end text CutOff u gap k is = absurd cc
@@ -156,8 +156,8 @@ by_end text (Whole d bytes) u gap k is =
         good = record { head = is.1.head; unbroken = t.unbroken; tree_good = tree.1; counted = tree.2 };
         is = read.3 ∙ ap (λ (x : List ℕ). x ++ bytes) front ∙ ap (λ (x : List ℕ). head_text h ++ x) (tree.3 ∙ ap (λ (x : List ℕ). tree_letters h.params.case.n tree.0 ++ 10 ∷ x) l.closes.closes);
       },
-      l.closes.u,
-      l.closes.gap,
+      l.closes.same_u,
+      l.closes.same_gap,
     )
 
 pub accepted_is_good : AcceptedIsGood

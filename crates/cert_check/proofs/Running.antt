@@ -8,7 +8,7 @@ use Rattle.io_edge.proofs.Told.{ahead-step}
 use Rattle.cert_lines.specs.Heads.{blank}
 use Rattle.cert_lines.specs.declared.faults.CertFault.TheVariants.{TooLong}
 use Rattle.cert_format.specs.declared.verdicts.Verdict.{Verdict}
-use Rattle.cert_format.specs.declared.verdicts.Verdict.TheVariants.{Accepted, Refused}
+use Rattle.cert_format.specs.declared.verdicts.Verdict.TheVariants.{Accepted, BadParams, BadBalance, BadEnergy, BadGap, BadLeaf, Refused, ReadFault, Memory}
 use Rattle.cert_check.specs.Checking.{State, InHead, Gives, Takes}
 use Rattle.cert_check.specs.Judging.{IsVerdict}
 use Rattle.cert_check.specs.Streams.{limit, past_limit, IsPastLimit, IsStreamVerdict, IsTextVerdict, Judges}
@@ -28,7 +28,7 @@ so_far_out start s after u bytes i d inside step far =
     ((λ rest. far rest u (rw (drop_more bytes i d inside) (step.0 (drop (i + 1) bytes ++ rest)))), step.1)
 
 pub so_far_all : (start s : State) (bytes : List ℕ) (i : ℕ) → length bytes ≤ i → SoFar start s bytes i → Takes start bytes s None
-so_far_all start s bytes i end far rest v g = far rest v (rw (drop_all bytes i end) g)
+so_far_all start s bytes i end far rest v g = far rest v (rw (drop_all i bytes end) g)
 
 -- ---- verdicts
 settled_no_yes : (u gap : ℤ) → past_limit (Accepted u gap) ≡ Accepted u gap → ⊥
@@ -121,14 +121,20 @@ ends taken left left' s v far spent short g bytes told =
     let whole = all_seen left left' far.seen bytes far.next spent told in
     subst (λ (x : List ℕ). IsStreamVerdict x v) (sym whole) (inl (omega (arith, far.counted, short), ended taken left left' s v far g))
 
+more_than : (most : ℕ) (bytes seen piece rest : List ℕ) → bytes ≡ seen ++ (piece ++ rest) → length seen ≡ most → 0 < length piece → most < length bytes
+more_than most bytes seen piece rest parts full some = rw (parts, length-append, length-append) (omega (arith, full, some))
+
+first_of : (most : ℕ) (bytes seen rest : List ℕ) → bytes ≡ seen ++ rest → length seen ≡ most → take most bytes ≡ seen
+first_of most bytes seen rest parts full = rw parts (take_at seen rest most full)
+
 pub past : (taken : ℕ) (left left' after : Option (List ℕ)) (s : State) (v : Verdict) (piece : List ℕ) → IsSoFar taken left left' s → left' ≡ ahead piece after
     → 0 < length piece → taken ≡ limit → Gives s [] v → (bytes : List ℕ) → left ≡ Some bytes → IsStreamVerdict bytes (past_limit v)
 past taken left left' after s v piece far next some full g bytes told =
     let whole = ahead-step far.seen piece left left' after far.next next in
     let k = splits bytes (far.seen ++ piece) left after whole told in
     let parts : bytes ≡ far.seen ++ (piece ++ k.rest) = k.parts ∙ append_assoc far.seen piece k.rest in
-    let long : limit < length bytes = rw (parts, length-append, length-append) (omega (arith, far.counted, full, some)) in
-    let first : take limit bytes ≡ far.seen = rw parts (take_at far.seen (piece ++ k.rest) limit (far.counted ∙ full)) in
+    let long : limit < length bytes = more_than limit bytes far.seen piece k.rest parts (far.counted ∙ full) some in
+    let first : take limit bytes ≡ far.seen = first_of limit bytes far.seen (piece ++ k.rest) parts (far.counted ∙ full) in
     inr (record {
       long = long;
       within = v;
@@ -163,10 +169,31 @@ pub all_read : (left left' : Option (List ℕ)) (text : List ℕ) (v : Verdict) 
 all_read left left' text v short next spent is bytes told =
     subst (λ (x : List ℕ). IsTextVerdict x v) (sym (all_seen left left' text bytes next spent told)) (inl (short, is))
 
+longer_than : (most : ℕ) (bytes seen rest : List ℕ) → bytes ≡ seen ++ rest → length seen ≡ most + 1 → most < length bytes
+longer_than most bytes seen rest parts count = rw (parts, length-append) (omega (arith, count))
+
 -- one byte more than the limit was read
 pub too_long : (left left' : Option (List ℕ)) (seen : List ℕ) → length seen ≡ limit + 1 → left ≡ ahead seen left'
     → (bytes : List ℕ) → left ≡ Some bytes → IsTextVerdict bytes (Refused TooLong)
 too_long left left' seen count next bytes told =
     let k = splits bytes seen left left' next told in
-    let long : limit < length bytes = rw (k.parts, length-append) (omega (arith, count)) in
-    inr (long, refl)
+    inr (longer_than limit bytes seen k.rest k.parts count, refl)
+
+-- ---- verdicts on what was seen alone
+pub found_whole : (taken : ℕ) (left left' : Option (List ℕ)) (s t : State) (v : Verdict) (piece : List ℕ) → IsSoFar taken left left' s → Takes s piece t (Some v) → (seen : List ℕ) × IsVerdict seen v
+found_whole taken left left' s t v piece far step = (far.seen ++ (piece ++ []), far.gives (piece ++ []) v (step.0 []))
+
+pub ends_whole : (taken : ℕ) (left left' : Option (List ℕ)) (s : State) (v : Verdict) → IsSoFar taken left left' s → Gives s [] v → (seen : List ℕ) × IsVerdict seen v
+ends_whole taken left left' s v far g = (far.seen ++ [], far.gives [] v g)
+
+-- past the limit nothing is accepted
+pub past_no_yes : (v : Verdict) (u gap : ℤ) → past_limit v ≡ Accepted u gap → ⊥
+past_no_yes (Accepted w low) u gap e = cc
+past_no_yes (Refused f) u gap e = cc
+past_no_yes BadParams u gap e = cc
+past_no_yes (BadBalance i) u gap e = cc
+past_no_yes BadEnergy u gap e = cc
+past_no_yes BadGap u gap e = cc
+past_no_yes (BadLeaf i) u gap e = cc
+past_no_yes ReadFault u gap e = cc
+past_no_yes Memory u gap e = cc
