@@ -4,3 +4,15 @@ pub mod SameHeads
 pub mod SameTests
 pub mod Converse
 pub mod OfAnswers
+pub mod LetterSteps
+pub mod LineSteps
+pub mod HeadSteps
+pub mod LineCount
+pub mod Pairs
+pub mod Gaps
+pub mod Balances
+pub mod CheckerSteps
+pub mod Running
+pub mod Certifies
+pub mod Accepted
+pub mod NotTooLong

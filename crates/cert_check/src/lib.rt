@@ -8,5 +8,16 @@
 #![tactic(auto)]
 
 mod broken;
+mod checker;
+mod head_stub;
+mod laws;
+mod leaves;
+mod line;
+mod line_count;
+mod streams;
+mod tail;
+mod testing;
 
 pub use broken::Broken;
+pub use laws::{accepted_is_good, good_certifies};
+pub use streams::{check, check_stream};

@@ -8,7 +8,7 @@ pub use Rattle.cert_lines.proofs.LinePlaces.{lines_are_found, places_are_found}
 pub use Rattle.cert_lines.proofs.Listed.{places_stand}
 pub use Rattle.cert_lines.proofs.NumbersOf.{numbers_fit}
 pub use Rattle.cert_lines.proofs.OneLine.{is_line}
-pub use Rattle.cert_lines.proofs.Shapes.{lines_fit}
+pub use Rattle.cert_lines.proofs.Shapes.{IsKept, lines_fit, shape_kept}
 pub use Rattle.cert_lines.proofs.Suiting.{feed_fits, few, lines_suit, whole_heads_have_all}
 pub use Rattle.cert_lines.proofs.WholeHead.{heads_are_read}
 pub use Rattle.cert_lines.proofs.Within.{edition_each, numbered_each, paired_each, place_within}

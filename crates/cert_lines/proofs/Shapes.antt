@@ -304,12 +304,12 @@ then_kept k l s t u h f g = record {
 }
 
 -- from a draft to what it becomes
-pub later : (d after : Draft) (said : List Said) (lines : List (List ℕ)) → Says d said lines after → IsKept (length d.said) d.shape after.shape
+pub shape_kept : (d after : Draft) (said : List Said) (lines : List (List ℕ)) → Says d said lines after → IsKept (length d.said) d.shape after.shape
 unfolding Says
-later d after [] lines f = subst (λ (x : Draft). IsKept (length d.said) d.shape x.shape) (sym f.1) (same (length d.said) d.shape)
-later d after (s ∷ said) lines f =
+shape_kept d after [] lines f = subst (λ (x : Draft). IsKept (length d.said) d.shape x.shape) (sym f.1) (same (length d.said) d.shape)
+shape_kept d after (s ∷ said) lines f =
     let one = kept (length d.said) d.shape f.0 s f.2.next in
-    let rest = later (put d f.0 s) after said f.1 f.4 in
+    let rest = shape_kept (put d f.0 s) after said f.1 f.4 in
     then_kept (length d.said) (length (d.said ++ s ∷ [])) d.shape (reshaped d.shape f.0 s) after.shape (omega (arith, length-append d.said (s ∷ []))) one rest
 
 -- the numbers of the first four lines don't depend on the number of components
@@ -346,7 +346,7 @@ fit : (d after : Draft) (said : List Said) (lines : List (List ℕ)) → Says d 
 unfolding Says
 fit d after [] lines f i h = absurd (omega (arith, h))
 fit d after (s ∷ said) lines f zero h =
-    let k = later d after (s ∷ said) lines f in
+    let k = shape_kept d after (s ∷ said) lines f in
     let first : length d.said + 0 ≡ length d.said = omega arith in
     subst (λ (n : ℕ). FitsAt after n s) (sym first) (record {
       place = f.0;

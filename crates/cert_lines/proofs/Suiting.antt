@@ -19,7 +19,7 @@ use Rattle.cert_lines.proofs.HeadText.{lines_take}
 use Rattle.cert_lines.proofs.LineText.{some_is, int_le_out}
 use Rattle.cert_lines.proofs.LinePlaces.{places_are_found, lines_are_found}
 use Rattle.cert_lines.proofs.Listed.{places_stand}
-use Rattle.cert_lines.proofs.Shapes.{later}
+use Rattle.cert_lines.proofs.Shapes.{shape_kept}
 
 -- ---- what one line leaves of the shape
 within : (limit : ℕ) (z : ℤ) → pos 0 ≤ℤ z → z ≤ℤ pos limit → unsigned_abs z ≤ limit
@@ -95,7 +95,7 @@ stated_next s p q x y differ f =
 
 -- the next line stands where it stands in the end
 stands : (d after : Draft) (s : Said) (said : List Said) (lines : List (List ℕ)) (f : Says d (s ∷ said) lines after) → place_at after.shape (length d.said) ≡ next_place d
-stands d after s said lines f = (later d after (s ∷ said) lines f).places (length d.said) (omega arith)
+stands d after s said lines f = (shape_kept d after (s ∷ said) lines f).places (length d.said) (omega arith)
 
 stated_later : (d after : Draft) (said : List Said) (lines : List (List ℕ)) → Says d said lines after → after.shape.n ≤ 4
     → (k : ℕ) (q : Place) (x : Said) → k < length d.said → place_at after.shape k ≡ Some q → IsStated d.shape q x → IsStated after.shape q x
