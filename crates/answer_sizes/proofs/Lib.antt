@@ -1,0 +1,3 @@
+pub mod UpperSize
+pub mod PlaneSize
+pub mod PlaneOver
