@@ -22,9 +22,7 @@ use Rattle.energy_surface.specs.Program.Planes.{plane_of, plane_entry, live_entr
 use Rattle.energy_surface.specs.Program.Solutions.{size, slope}
 use Rattle.energy_surface.specs.Rounds.{Start, IsRound, AreRefuted, own_of, after}
 use Rattle.energy_surface.specs.Surfaces.{Surface}
-use Rattle.exact_lp.proofs.Exports.{spans_above, columns_kept, pivots_keep, basis_kept, start_is_basis}
-use Rattle.exact_lp.proofs.PlaneEntries.{slope_small}
-use Rattle.exact_lp.proofs.StartBasis.{start_is_optimal}
+use Rattle.exact_lp.proofs.Exports.{spans_above, columns_kept, pivots_keep, basis_kept, start_is_basis, start_is_optimal, slope_small}
 
 -- ---- an entry of a plane
 entry_floor : (y : ℤ) (s : ℕ) → 0 < s → unsigned_abs y ≤ 2 ^ 70 * s → unsigned_abs (floor_over y s) ≤ 2 ^ 70
