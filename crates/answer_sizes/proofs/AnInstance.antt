@@ -1,7 +1,7 @@
 -- There is a choice between the printed ends of a case: the lower ends.
-use Rattle.std.proofs.Common.{◌≡◌, ℕ, ◌+◌, ◌*◌, ◌^◌, ◌<◌, ◌≤◌, ◌==◌, Bool, true, false, cond, min, max, inl, inr, ℤ, pos, negsuc, ◌*ℤ◌, ◌≤ℤ◌, ◌<ℤ◌, refl, sym, arith, lit<}
+use Rattle.std.proofs.Common.{◌≡◌, ℕ, ◌+◌, ◌*◌, ◌^◌, ◌<◌, ◌≤◌, ◌==◌, Bool, true, false, min, max, inl, inr, ℤ, pos, negsuc, ◌*ℤ◌, ◌≤ℤ◌, ◌<ℤ◌, refl, sym, arith, lit<}
 use Rattle.std.specs.Prelude.{if◌then◌else◌}
-use Rattle.std.proofs.Math.Nat.{le_of_mul-le-mul_right, mul-le-mul}
+use Rattle.std.proofs.Math.Nat.{mul-le-mul}
 use Rattle.std.proofs.lemmas.Bool.{cases_lt, ne_eqb}
 use Rattle.std.proofs.lemmas.Bool.Decides.{nat_tests}
 use Rattle.std.proofs.lemmas.Int.{ints}
@@ -12,7 +12,7 @@ use Rattle.case_types.specs.declared.cases.Case.{Case}
 use Rattle.case_types.specs.Arithmetic.Numbers.{numbers_of, enclosures_of}
 use Rattle.case_types.specs.Arithmetic.Tables.{ends_at}
 use Rattle.case_types.specs.Energy.Components.{critical_temperature, critical_pressure}
-use Rattle.case_types.specs.Energy.Instances.{Instance, IsInstance, HoldsRoot, AreRight, pair_place}
+use Rattle.case_types.specs.Energy.Instances.{Instance, IsInstance, HoldsRoot, pair_place}
 use Rattle.pr_params.proofs.Exports.{component_at, enclosures_right, e_lo_is, e_hi_is}
 
 -- ---- the lower end lies between the ends

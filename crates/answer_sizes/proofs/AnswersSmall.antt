@@ -1,18 +1,14 @@
 -- The numbers of a lawful answer are small.
-use Rattle.std.proofs.Common.{◌≡◌, ℕ, ◌^◌, ◌<◌, ◌≤◌, length, None, ℤ, pos, neg_ℤ, ◌-ℤ◌, ◌≤ℤ◌, unsigned_abs, subst, sym, ap, arith}
+use Rattle.std.proofs.Common.{◌≡◌, ℕ, ◌^◌, ◌<◌, ◌≤◌, ℤ, pos, neg_ℤ, ◌-ℤ◌, ◌≤ℤ◌, unsigned_abs, subst, sym, arith}
 use Rattle.std.specs.List.{All}
 use Rattle.std.proofs.lemmas.Int.{ints}
-use Rattle.case_types.specs.declared.answers.Answer.{Answer}
-use Rattle.case_types.specs.declared.cases.Case.{Case}
 use Rattle.case_types.specs.declared.phases.Phase.{Phase}
 use Rattle.case_types.specs.declared.planes.Plane.{Plane}
 use Rattle.case_types.specs.Arithmetic.Bounds.{energy_up, plane_at, potential}
-use Rattle.case_types.specs.Arithmetic.Faults.{fault_of}
 use Rattle.case_types.specs.Arithmetic.Numbers.{numbers_of}
 use Rattle.case_types.specs.Arithmetic.Splits.{phase_up, split_up}
-use Rattle.energy_surface.specs.Lawful.{IsLawful}
 use Rattle.pr_surface.specs.PengRobinson.{surface_of}
-use Rattle.answer_sizes.specs.Sizes.{HasSmallNumbers, AnswersAreSmall}
+use Rattle.answer_sizes.specs.Sizes.{AnswersAreSmall}
 use Rattle.answer_sizes.proofs.LowAbove.{last_low_least}
 use Rattle.answer_sizes.proofs.LowBelow.{low_at_most}
 use Rattle.answer_sizes.proofs.PlaneOver.{plane_at_feed_small}
@@ -33,7 +29,7 @@ sizes u p low gap hu hp below above e = record {
 }
 
 pub answers_are_small : AnswersAreSmall
-answers_are_small c tol budget a fine within few accepted h =
+answers_are_small c tol budget a within few accepted h =
     let are = sizes a.u (plane_at c.n a.plane.lam c.z c.total) a.low a.gap upper (plane_at_feed_small c a.plane.lam (2 ^ 70) small) low (low_at_most c tol budget a accepted h.answer) h.answer.gap in
     record { u = are.u_small; low = are.low_small; gap = are.gap_small }
   where

@@ -1,9 +1,9 @@
 -- Bounds of a log sum are in order.
-use Rattle.std.proofs.Common.{◌≡◌, ℕ, ◌*◌, ◌^◌, ◌<◌, ◌≤◌, List, [], ◌∷◌, ◌++◌, ℤ, pos, neg_ℤ, ◌+ℤ◌, ◌*ℤ◌, ◌≤ℤ◌, refl, arith, lit<}
+use Rattle.std.proofs.Common.{◌≡◌, ℕ, ◌*◌, ◌^◌, ◌<◌, List, [], ◌∷◌, ◌++◌, ℤ, pos, neg_ℤ, ◌+ℤ◌, ◌*ℤ◌, ◌≤ℤ◌, refl, arith}
 use Rattle.std.proofs.lemmas.Int.{ints}
 use borrow.Author.Differences.{up, down}
-use Rattle.log_laws.specs.Fraction.{Fraction, IsFraction, IsAtMost, sum_of, negated, difference}
-use Rattle.log_laws.specs.LogSum.{Term, LogSum, IsAtLeastOne, AtLeast, AtMost, two_to, opposite, opposite_terms, constant}
+use Rattle.log_laws.specs.Fraction.{Fraction, IsAtMost, sum_of, negated, difference}
+use Rattle.log_laws.specs.LogSum.{Term, LogSum, IsAtLeastOne, AtLeast, AtMost, two_to, opposite, opposite_terms}
 use Rattle.log_laws.proofs.Exports.{neg-mul, product_pos, le_of_mul-le_ℤ, at_least_adds, at_most_is_opposite, at_least_constant, dens_of}
 use Rattle.log_laws.proofs.Exports.{to_front, at_least_one-reordered, at_least_one-merge, at_least_one-drop_zero}
 use Rattle.log_laws.proofs.Exports.{next, swap, chain}

@@ -1,8 +1,8 @@
 -- The cells of a tree of the whole domain lie inside it.
-use Rattle.std.proofs.Common.{◌≡◌, ℕ, zero, suc, ◌+◌, ◌-◌, ◌*◌, ◌/◌, ◌^◌, ◌<◌, ◌≤◌, ◌==◌, ◌⊎◌, inl, inr, Bool, true, false, cond, List, [], ◌∷◌, ◌++◌, slice_index, refl, arith}
+use Rattle.std.proofs.Common.{◌≡◌, ℕ, zero, suc, ◌-◌, ◌^◌, ◌≤◌, ◌==◌, ◌⊎◌, inl, inr, Bool, true, false, cond, List, [], ◌∷◌, ◌++◌, slice_index, refl, arith}
 use Rattle.std.specs.Prelude.{if◌then◌else◌, nat_lt, slice_set}
 use Rattle.log_laws.specs.Sums.{list_below}
-use Rattle.case_types.specs.Grid.Cells.{Region, root_region, packing_edge, cut, lower_half, upper_half, Tree, Leaf, Node, Step, Visit, visits, HasVisit}
+use Rattle.case_types.specs.Grid.Cells.{Region, root_region, packing_edge, cut, lower_half, upper_half, Tree, Leaf, Node, Visit, visits, HasVisit}
 use Rattle.energy_surface.specs.Energies.{IsInside}
 
 -- ---- halves

@@ -1,5 +1,5 @@
 -- The low of a lawful answer isn't far below 0: it is the low of a leaf, or of the whole domain.
-use Rattle.std.proofs.Common.{◌≡◌, ℕ, ◌+◌, ◌-◌, ◌*◌, ◌^◌, ◌<◌, ◌≤◌, ◌==◌, inl, inr, Bool, true, false, cond, Option, Some, None, List, ℤ, pos, neg_ℤ, ◌-ℤ◌, ◌≤ℤ◌, unsigned_abs, slice_index, refl, ap, sym, subst, ◌∙◌, arith}
+use Rattle.std.proofs.Common.{◌≡◌, ℕ, ◌-◌, ◌*◌, ◌^◌, ◌<◌, ◌≤◌, ◌==◌, inl, inr, Bool, true, false, cond, Option, Some, None, List, ℤ, pos, neg_ℤ, ◌-ℤ◌, ◌≤ℤ◌, unsigned_abs, slice_index, ap, sym, subst, ◌∙◌, arith}
 use Rattle.std.specs.Prelude.{nat_lt}
 use Rattle.std.proofs.lemmas.Int.{ints}
 use Rattle.log_laws.specs.Sums.{list_below}
@@ -12,11 +12,9 @@ use Rattle.case_types.specs.Arithmetic.Numbers.{numbers_of}
 use Rattle.case_types.specs.Grid.Cells.{Region, root_region, box_of_region, free_sum, Misses, Plain, Sloped, Step, Ends, Halves, Visit, visits, cell_low}
 use Rattle.energy_surface.specs.declared.found.Found.{Found}
 use Rattle.energy_surface.specs.Energies.{IsInside}
-use Rattle.energy_surface.specs.Outcomes.{delta_of}
 use Rattle.energy_surface.specs.Rounds.{Start, Own, IsRound}
-use Rattle.energy_surface.specs.Searches.{IsLeastLow, IsStepAt, HasLeastLow, IsSearched, low_of}
-use Rattle.energy_surface.specs.Surfaces.{plain_low, under}
-use Rattle.pr_params.proofs.Exports.{count_of}
+use Rattle.energy_surface.specs.Searches.{IsLeastLow, IsStepAt, HasLeastLow, low_of}
+use Rattle.energy_surface.specs.Surfaces.{plain_low}
 use Rattle.pr_surface.specs.PengRobinson.{surface_of}
 use Rattle.answer_sizes.proofs.Inside.{root_inside, visit_inside}
 use Rattle.answer_sizes.proofs.PlainSize.{energy_least}
@@ -38,7 +36,7 @@ box_small n r inside i h = (
     at_place : (ends : List ℕ) (rest : ℕ) → ((i : ℕ) → slice_index ends i ≤ 2 ^ 20) → rest ≤ 2 ^ 40 →
         slice_index (list_below 4 (λ i. cond (nat_lt i (n - 1)) (slice_index ends i * 2 ^ 20) (cond (i == n - 1) rest 0))) i ≤ 2 ^ 40
     at_place ends rest free k =
-        rw (get_or-list_below 4 (λ i. cond (nat_lt i (n - 1)) (slice_index ends i * 2 ^ 20) (cond (i == n - 1) rest 0)) i 0 h)
+        rw (get_or-list_below 4 (λ i. cond (nat_lt i (n - 1)) (slice_index ends i * 2 ^ 20) (cond (i == n - 1) rest 0)) 0 i h)
         (fraction_small (slice_index ends i) rest (nat_lt i (n - 1)) (i == n - 1) (free i) k)
 
 -- ---- the low of a cell

@@ -1,21 +1,20 @@
 -- The plain low of a cell isn't far below 0.
-use Rattle.std.proofs.Common.{◌≡◌, ℕ, zero, suc, ◌+◌, ◌-◌, ◌*◌, ◌/◌, ◌^◌, ◌<◌, ◌≤◌, ◌==◌, ◌⊎◌, inl, inr, Bool, true, false, cond, None, List, ℤ, pos, negsuc, neg_ℤ, ◌+ℤ◌, ◌-ℤ◌, ◌*ℤ◌, ◌≤ℤ◌, unsigned_abs, slice_index, refl, ap, sym, subst, ◌∙◌, arith, lit<}
-use Rattle.std.specs.Prelude.{if◌then◌else◌, nat_lt, int_le}
-use Rattle.std.specs.Int.{int_min, int_max}
-use Rattle.std.proofs.Math.IntN.{*ℤ_comm}
+use Rattle.std.proofs.Common.{◌≡◌, ℕ, zero, suc, ◌+◌, ◌-◌, ◌*◌, ◌/◌, ◌^◌, ◌<◌, ◌≤◌, ◌==◌, Bool, true, false, None, ℤ, pos, negsuc, neg_ℤ, ◌+ℤ◌, ◌-ℤ◌, ◌*ℤ◌, ◌≤ℤ◌, unsigned_abs, slice_index, ap, sym, subst, arith, lit<}
+use Rattle.std.specs.Prelude.{if◌then◌else◌, int_le}
+use Rattle.std.specs.Int.{int_min}
 use Rattle.std.proofs.Math.Nat.{mul-le-mul, div-lt_iff_lt-mul, zero-div}
 use Rattle.std.proofs.lemmas.Int.{ints, clamps}
 use borrow.Author.Differences.{product_is}
 use Rattle.log_laws.specs.Between.{Ends}
-use Rattle.log_laws.specs.Sums.{int_sum_below, list_below, sum_below}
+use Rattle.log_laws.specs.Sums.{int_sum_below}
 use Rattle.log_laws.specs.Squaring.{log_down, log_up}
 use Rattle.log_laws.specs.Whole.{floor_over, ceil_over, floor_div, ceil_div}
-use Rattle.log_laws.proofs.Exports.{mul-le_ℤ, ≤ℤ_trans, get_or-list_below}
+use Rattle.log_laws.proofs.Exports.{≤ℤ_trans}
 use Rattle.case_types.specs.declared.cases.Case.{Case}
 use Rattle.case_types.specs.Arithmetic.Bounds.{Box, one, mixing_low, volume_low, volume_down, flat_packing, covolume_range, covolume_scale, lambda_up, ratio_high, attraction_high, attraction_term_high, energy_low, stretched_up}
 use Rattle.case_types.specs.Arithmetic.Faults.{fault_of}
 use Rattle.case_types.specs.Arithmetic.Numbers.{Numbers, numbers_of}
-use Rattle.case_types.specs.Arithmetic.Tables.{ends_at, ends_of_pair}
+use Rattle.case_types.specs.Arithmetic.Tables.{ends_of_pair}
 use Rattle.pr_params.proofs.Exports.{e_lo_is, e_hi_is, two_exact, range_least, count_of}
 use Rattle.pr_params.proofs.AcceptedSizes.{attraction_least, usable}
 use Rattle.pr_params.proofs.AllMeans.{rho_positive}

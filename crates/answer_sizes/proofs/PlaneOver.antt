@@ -1,13 +1,12 @@
 -- A plane of small potentials is small at the feed, and no higher over a box.
-use Rattle.std.proofs.Common.{◌≡◌, ℕ, zero, suc, ◌+◌, ◌-◌, ◌*◌, ◌/◌, ◌^◌, ◌<◌, ◌≤◌, ◌⊎◌, inl, inr, List, ℤ, pos, negsuc, neg_ℤ, ◌+ℤ◌, ◌-ℤ◌, ◌*ℤ◌, ◌≤ℤ◌, unsigned_abs, slice_index, refl, arith}
+use Rattle.std.proofs.Common.{ℕ, zero, suc, ◌+◌, ◌-◌, ◌*◌, ◌/◌, ◌<◌, ◌≤◌, List, ℤ, pos, negsuc, ◌+ℤ◌, ◌-ℤ◌, ◌*ℤ◌, ◌≤ℤ◌, unsigned_abs, slice_index, arith}
 use Rattle.std.specs.Int.{int_min, int_max}
-use Rattle.std.proofs.Math.Nat.{mul-le-mul, mul-le-mul_right, div-lt_iff_lt-mul}
+use Rattle.std.proofs.Math.Nat.{mul-le-mul_right, div-lt_iff_lt-mul}
 use Rattle.std.proofs.lemmas.Int.{ints, clamps}
 use borrow.Author.Differences.{product_is}
 use Rattle.log_laws.specs.Sums.{sum_below, int_sum_below, greatest_below}
 use Rattle.log_laws.specs.Linear.{affine_high}
 use Rattle.log_laws.specs.Whole.{floor_over}
-use Rattle.log_laws.proofs.Exports.{≤ℤ_trans}
 use Rattle.case_types.specs.declared.cases.Case.{Case}
 use Rattle.case_types.specs.Arithmetic.Bounds.{Box, potential, plane_at, plane_times, plane_sum, plane_high}
 use Rattle.case_types.proofs.Exports.{total_positive}

@@ -1,6 +1,6 @@
 -- The potentials of the last plane are small: no pure column lies below it.
-use Rattle.std.proofs.Common.{◌≡◌, ℕ, zero, suc, ◌+◌, ◌*◌, ◌/◌, ◌^◌, ◌<◌, ◌≤◌, inl, inr, add-one, min, ltb-true, Bool, true, false, List, [], ◌∷◌, ◌++◌, length, take, Option, Some, None, ℤ, pos, negsuc, ◌*ℤ◌, ◌≤ℤ◌, unsigned_abs, slice_index, refl, ap, sym, subst, ◌∙◌, arith}
-use Rattle.std.specs.Prelude.{if◌then◌else◌, nat_lt, slice_get, slice_set}
+use Rattle.std.proofs.Common.{◌≡◌, ℕ, zero, suc, ◌+◌, ◌*◌, ◌/◌, ◌^◌, ◌<◌, ◌≤◌, inl, inr, add-one, min, ltb-true, Bool, true, false, List, [], ◌∷◌, ◌++◌, length, take, Some, ℤ, pos, negsuc, ◌*ℤ◌, unsigned_abs, refl, ap, subst, ◌∙◌, arith}
+use Rattle.std.specs.Prelude.{nat_lt, slice_get, slice_set}
 use Rattle.std.specs.List.{All}
 use Rattle.std.proofs.Math.Nat.{div-lt_iff_lt-mul}
 use Rattle.std.proofs.lemmas.Int.{ints}
@@ -17,7 +17,7 @@ use Rattle.energy_surface.specs.declared.found.Found.{Found}
 use Rattle.energy_surface.specs.Columns.{IsColumn}
 use Rattle.energy_surface.specs.Lawful.{IsListOfWork, IsPureColumn, beginning}
 use Rattle.energy_surface.specs.Program.Bases.{no_column, column_at, system, costs_of, start_places, AreColumns, IsBasis}
-use Rattle.energy_surface.specs.Program.Pivots.{ArePivots, IsOptimal, IsPureOptimal}
+use Rattle.energy_surface.specs.Program.Pivots.{ArePivots, IsPureOptimal}
 use Rattle.energy_surface.specs.Program.Planes.{plane_of, plane_entry, live_entry}
 use Rattle.energy_surface.specs.Program.Solutions.{size, slope}
 use Rattle.energy_surface.specs.Rounds.{Start, IsRound, AreRefuted, own_of, after}

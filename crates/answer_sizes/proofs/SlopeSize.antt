@@ -1,16 +1,15 @@
 -- The slope low of a cell is small where it is there, since the ends of its form are.
-use Rattle.std.proofs.Common.{◌≡◌, ℕ, zero, suc, ◌+◌, ◌-◌, ◌*◌, ◌/◌, ◌^◌, ◌<◌, ◌≤◌, ◌==◌, ◌⊎◌, inl, inr, Bool, true, false, cond, Option, Some, None, List, ℤ, pos, negsuc, neg_ℤ, ◌+ℤ◌, ◌-ℤ◌, ◌*ℤ◌, ◌≤ℤ◌, unsigned_abs, slice_index, refl, ap, arith}
+use Rattle.std.proofs.Common.{◌≡◌, ℕ, ◌+◌, ◌*◌, ◌/◌, ◌^◌, ◌<◌, ◌≤◌, ◌==◌, ◌⊎◌, inl, inr, Bool, true, false, Option, Some, None, List, ℤ, pos, negsuc, ◌+ℤ◌, ◌-ℤ◌, ◌*ℤ◌, unsigned_abs, slice_index, refl, arith}
 use Rattle.std.specs.Prelude.{option_map}
 use Rattle.std.specs.Int.{int_min}
 use Rattle.std.proofs.Math.Nat.{mul-le-mul}
 use Rattle.std.proofs.lemmas.Int.{ints, clamps, unsigned_abs-mul}
-use borrow.Author.Differences.{product_is}
 use Rattle.log_laws.specs.Between.{Ends}
 use Rattle.log_laws.specs.Sums.{int_sum_below}
 use Rattle.log_laws.specs.Whole.{floor_over}
 use Rattle.fix_interval.specs.Extremes.{least_of_four}
 use Rattle.case_types.specs.Arithmetic.Numbers.{Numbers}
-use Rattle.case_types.specs.Grid.Cells.{Region, middle_of, packing_edge}
+use Rattle.case_types.specs.Grid.Cells.{Region, packing_edge}
 use Rattle.energy_surface.specs.Energies.{IsInside}
 use Rattle.slope_form.specs.Arithmetic.{difference_of_ends}
 use Rattle.slope_form.specs.Forms.{Form, slope_of, difference_form}

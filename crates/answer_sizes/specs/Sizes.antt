@@ -13,8 +13,8 @@ pub record HasSmallNumbers (a : Answer) : Type 0 where
   pub low : unsigned_abs a.low < 2 ^ 80
   pub gap : unsigned_abs a.gap < 2 ^ 80
 
--- those of a lawful answer of at most four phases are, for the tolerances and the budgets of a flash
+-- those of a lawful answer of at most four phases are, whatever the tolerance, for the budgets of a flash
 abbrev pub AnswersAreSmall : Type 0
 AnswersAreSmall =
-    (c : Case) (tol budget : ℕ) (a : Answer) → tol ≤ 2 ^ 20 → budget ≤ 10000000 → length a.split.phases.items ≤ 4 → fault_of c ≡ None →
+    (c : Case) (tol budget : ℕ) (a : Answer) → budget ≤ 10000000 → length a.split.phases.items ≤ 4 → fault_of c ≡ None →
     IsLawful (surface_of (numbers_of c)) c tol budget a → HasSmallNumbers a
