@@ -1,3 +1,4 @@
+pub mod Rounding
 pub mod UpperSize
 pub mod PlaneSize
 pub mod PlaneOver

@@ -1,14 +1,14 @@
 -- The plain low of a cell isn't far below 0.
-use Rattle.std.proofs.Common.{◌≡◌, ℕ, zero, suc, ◌+◌, ◌-◌, ◌*◌, ◌/◌, ◌^◌, ◌<◌, ◌≤◌, ◌==◌, Bool, true, false, None, ℤ, pos, negsuc, neg_ℤ, ◌+ℤ◌, ◌-ℤ◌, ◌*ℤ◌, ◌≤ℤ◌, unsigned_abs, slice_index, ap, sym, subst, arith, lit<}
+use Rattle.std.proofs.Common.{◌≡◌, ℕ, zero, suc, ◌+◌, ◌-◌, ◌*◌, ◌^◌, ◌<◌, ◌≤◌, ◌==◌, Bool, true, false, None, ℤ, pos, negsuc, neg_ℤ, ◌+ℤ◌, ◌-ℤ◌, ◌*ℤ◌, ◌≤ℤ◌, unsigned_abs, slice_index, ap, sym, subst, arith, lit<}
 use Rattle.std.specs.Prelude.{if◌then◌else◌, int_le}
 use Rattle.std.specs.Int.{int_min}
-use Rattle.std.proofs.Math.Nat.{mul-le-mul, div-lt_iff_lt-mul, zero-div}
+use Rattle.std.proofs.Math.Nat.{mul-le-mul}
 use Rattle.std.proofs.lemmas.Int.{ints, clamps}
 use borrow.Author.Differences.{product_is}
 use Rattle.log_laws.specs.Between.{Ends}
-use Rattle.log_laws.specs.Sums.{int_sum_below}
+use Rattle.log_laws.specs.Sums.{greatest_below, int_sum_below}
 use Rattle.log_laws.specs.Squaring.{log_down, log_up}
-use Rattle.log_laws.specs.Whole.{floor_over, ceil_over, floor_div, ceil_div}
+use Rattle.log_laws.specs.Whole.{floor_div, ceil_div}
 use Rattle.log_laws.proofs.Exports.{≤ℤ_trans}
 use Rattle.case_types.specs.declared.cases.Case.{Case}
 use Rattle.case_types.specs.Arithmetic.Bounds.{Box, one, mixing_low, volume_low, volume_down, flat_packing, covolume_range, covolume_scale, lambda_up, ratio_high, attraction_high, attraction_term_high, energy_low, stretched_up}
@@ -16,46 +16,12 @@ use Rattle.case_types.specs.Arithmetic.Faults.{fault_of}
 use Rattle.case_types.specs.Arithmetic.Numbers.{Numbers, numbers_of}
 use Rattle.case_types.specs.Arithmetic.Tables.{ends_of_pair}
 use Rattle.pr_params.proofs.Exports.{e_lo_is, e_hi_is, two_exact, range_least, count_of}
-use Rattle.pr_params.proofs.AcceptedSizes.{attraction_least, usable}
-use Rattle.pr_params.proofs.AllMeans.{rho_positive}
+use Rattle.pr_params.proofs.AcceptedSizes.{attraction_least}
 use Rattle.pr_params.proofs.InOrder.{attraction_in_order, rho_most}
+use Rattle.answer_sizes.proofs.Rounding.{floor_least, floor_positive, ceiling_most, ceiling_positive}
 use Rattle.answer_sizes.proofs.LogSizes.{log_down_least, log_up_most}
 
--- ---- floors and ceilings
-floor_least : (z : ℤ) (d limit : ℕ) → 0 < d → neg_ℤ (pos (limit * d)) ≤ℤ z → neg_ℤ (pos limit) ≤ℤ floor_over z d
-floor_least (pos a) d limit some h = above (a / d)
-  where
-    above : (q : ℕ) → neg_ℤ (pos limit) ≤ℤ pos q
-    above q = omega (arith, ints)
-floor_least (negsuc a) d limit some h = above (a / d) ((div-lt_iff_lt-mul some).1 (under (limit * d) h))
-  where
-    under : (m : ℕ) → neg_ℤ (pos m) ≤ℤ negsuc a → a < m
-    under m h = omega (arith, ints, h)
-
-    above : (q : ℕ) → q < limit → neg_ℤ (pos limit) ≤ℤ negsuc q
-    above q h = omega (arith, ints, h)
-
-floor_positive : (z : ℤ) (d : ℕ) → pos 0 ≤ℤ z → pos 0 ≤ℤ floor_over z d
-floor_positive (pos a) d h = omega (arith, ints)
-floor_positive (negsuc a) d h = absurd (omega (arith, ints, h))
-
-ceiling_most : (z : ℤ) (d limit : ℕ) → 0 < d → z ≤ℤ pos (limit * d) → ceil_over z d ≤ℤ pos limit
-ceiling_most z d limit some h = turned (floor_over (neg_ℤ z) d) (floor_least (neg_ℤ z) d limit some (opposite (limit * d) h))
-  where
-    opposite : (m : ℕ) → z ≤ℤ pos m → neg_ℤ (pos m) ≤ℤ neg_ℤ z
-    opposite m h = omega (arith, ints, h)
-
-    turned : (f : ℤ) → neg_ℤ (pos limit) ≤ℤ f → neg_ℤ f ≤ℤ pos limit
-    turned f h = omega (arith, ints, h)
-
-ceiling_positive : (z : ℤ) (d : ℕ) → pos 0 ≤ℤ z → pos 0 ≤ℤ ceil_over z d
-ceiling_positive (pos zero) d h = none (0 / d) (zero-div d)
-  where
-    none : (q : ℕ) → q ≡ 0 → pos 0 ≤ℤ neg_ℤ (pos q)
-    none q e = omega (arith, ints, e)
-ceiling_positive (pos (suc n)) d h = omega (arith, ints)
-ceiling_positive (negsuc n) d h = absurd (omega (arith, ints, h))
-
+-- ---- the mixing terms
 -- a number that isn't negative times one that is at least this
 times_least : (a m : ℕ) (l : ℤ) (limit : ℕ) → a ≤ m → neg_ℤ (pos limit) ≤ℤ l → neg_ℤ (pos (m * limit)) ≤ℤ (pos a *ℤ l)
 times_least a m (pos k) limit h low = above (a * k) (m * limit)
@@ -67,7 +33,6 @@ times_least a m (negsuc k) limit h low = omega (arith, ints, product_is (pos a) 
     no_more : neg_ℤ (pos limit) ≤ℤ negsuc k → suc k ≤ limit
     no_more h = omega (arith, ints, h)
 
--- ---- the mixing terms
 mixing_least : (c : Case) (a b : ℕ) → a ≤ 2 ^ 40 → b ≤ 2 ^ 40 → neg_ℤ (pos (2 ^ 46)) ≤ℤ mixing_low (numbers_of c) a b
 unfolding mixing_low
 mixing_least c a b ha hb = by_test (b == 0)
@@ -175,13 +140,23 @@ attraction_positive c x accepted =
     each : (i j : ℕ) → i < c.n → j < c.n → pos 0 ≤ℤ (ends_of_pair (numbers_of c).attractions i j).hi
     each i j h g = ≤ℤ_trans _ _ _ (attraction_least c i j accepted h g) (attraction_in_order c i j accepted h g)
 
+-- the greatest ratio is one of 0 and the ratios
+first_or_more : (n : ℕ) (f : ℕ → ℤ) → pos 0 ≤ℤ greatest_below n f (pos 0)
+unfolding greatest_below
+first_or_more zero f = omega (arith, ints)
+first_or_more (suc n) f = let k = first_or_more n f in omega (arith, ints, clamps, k)
+
+rho_positive : (c : Case) → pos 0 ≤ℤ (numbers_of c).rho
+unfolding numbers_of
+rho_positive c = first_or_more c.n _
+
 ratio_sized : (c : Case) (x : Box) → fault_of c ≡ None → (pos 0 ≤ℤ ratio_high (numbers_of c) x) × (ratio_high (numbers_of c) x ≤ℤ pos (2 ^ 47))
 unfolding ratio_high
 ratio_sized c x accepted =
     least _ (numbers_of c).rho
     (ceiling_positive (attraction_high (numbers_of c) x *ℤ pos (2 ^ 47)) (unsigned_abs (covolume_range (numbers_of c) x).lo)
     (scaled (attraction_high (numbers_of c) x) (attraction_positive c x accepted)))
-    (rho_positive c.n (numbers_of c) (usable c accepted)) (rho_most c accepted)
+    (rho_positive c) (rho_most c accepted)
   where
     scaled : (z : ℤ) → pos 0 ≤ℤ z → pos 0 ≤ℤ (z *ℤ pos (2 ^ 47))
     scaled z h = omega (arith, ints, h)

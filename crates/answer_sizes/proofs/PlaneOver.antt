@@ -1,14 +1,14 @@
 -- A plane of small potentials is small at the feed, and no higher over a box.
-use Rattle.std.proofs.Common.{ℕ, zero, suc, ◌+◌, ◌-◌, ◌*◌, ◌/◌, ◌<◌, ◌≤◌, List, ℤ, pos, negsuc, ◌+ℤ◌, ◌-ℤ◌, ◌*ℤ◌, ◌≤ℤ◌, unsigned_abs, slice_index, arith}
+use Rattle.std.proofs.Common.{ℕ, zero, suc, ◌+◌, ◌-◌, ◌*◌, ◌≤◌, List, ℤ, pos, negsuc, ◌+ℤ◌, ◌-ℤ◌, ◌*ℤ◌, ◌≤ℤ◌, unsigned_abs, slice_index, arith}
 use Rattle.std.specs.Int.{int_min, int_max}
-use Rattle.std.proofs.Math.Nat.{mul-le-mul_right, div-lt_iff_lt-mul}
+use Rattle.std.proofs.Math.Nat.{mul-le-mul_right}
 use Rattle.std.proofs.lemmas.Int.{ints, clamps}
 use borrow.Author.Differences.{product_is}
 use Rattle.log_laws.specs.Sums.{sum_below, int_sum_below, greatest_below}
 use Rattle.log_laws.specs.Linear.{affine_high}
-use Rattle.log_laws.specs.Whole.{floor_over}
 use Rattle.case_types.specs.declared.cases.Case.{Case}
 use Rattle.case_types.specs.Arithmetic.Bounds.{Box, potential, plane_at, plane_times, plane_sum, plane_high}
+use Rattle.answer_sizes.proofs.Rounding.{floor_small}
 use Rattle.case_types.proofs.Exports.{total_positive}
 
 -- ---- at the feed
@@ -24,16 +24,6 @@ unfolding int_sum_below
 weighed_small zero lam z limit h = omega arith
 weighed_small (suc n) lam z limit h =
     joined (plane_sum n lam z) (lam n *ℤ pos (z n)) (sum_below n z) (z n) limit (weighed_small n lam z limit h) (times_small (lam n) (z n) limit (h n))
-
-floor_small : (y : ℤ) (d limit : ℕ) → 0 < d → unsigned_abs y ≤ limit * d → unsigned_abs (floor_over y d) ≤ limit
-floor_small (pos a) d limit some h = omega (arith, quotient_below a d (limit + 1) some (omega (arith, some, h)))
-  where
-    quotient_below : (a s limit : ℕ) → 0 < s → a < limit * s → a / s < limit
-    quotient_below a s limit h k = (div-lt_iff_lt-mul h).1 k
-floor_small (negsuc a) d limit some h = omega (arith, quotient_below a d limit some (omega (arith, h)))
-  where
-    quotient_below : (a s limit : ℕ) → 0 < s → a < limit * s → a / s < limit
-    quotient_below a s limit h k = (div-lt_iff_lt-mul h).1 k
 
 pub plane_at_feed_small : (c : Case) (lam : List ℤ) (limit : ℕ) → ((i : ℕ) → unsigned_abs (potential lam i) ≤ limit) → unsigned_abs (plane_at c.n lam c.z c.total) ≤ limit
 unfolding plane_at plane_times

@@ -1,11 +1,9 @@
 -- The potentials of the last plane are small: no pure column lies below it.
-use Rattle.std.proofs.Common.{◌≡◌, ℕ, zero, suc, ◌+◌, ◌*◌, ◌/◌, ◌^◌, ◌<◌, ◌≤◌, inl, inr, add-one, min, ltb-true, Bool, true, false, List, [], ◌∷◌, ◌++◌, length, take, Some, ℤ, pos, negsuc, ◌*ℤ◌, unsigned_abs, refl, ap, subst, ◌∙◌, arith}
+use Rattle.std.proofs.Common.{◌≡◌, ℕ, zero, suc, ◌+◌, ◌*◌, ◌^◌, ◌<◌, ◌≤◌, inl, inr, add-one, min, ltb-true, Bool, true, false, List, [], ◌∷◌, ◌++◌, length, take, Some, ℤ, pos, ◌*ℤ◌, unsigned_abs, refl, ap, subst, ◌∙◌, arith}
 use Rattle.std.specs.Prelude.{nat_lt, slice_get, slice_set}
 use Rattle.std.specs.List.{All}
-use Rattle.std.proofs.Math.Nat.{div-lt_iff_lt-mul}
 use Rattle.std.proofs.lemmas.Int.{ints}
 use Rattle.std.proofs.lemmas.List.{length-take, length-set, get_or-take}
-use Rattle.log_laws.specs.Whole.{floor_over}
 use Rattle.case_types.specs.declared.answers.Work.{Work}
 use Rattle.case_types.specs.declared.cases.Case.{Case}
 use Rattle.case_types.specs.declared.pivots.Pivot.{Pivot}
@@ -22,24 +20,15 @@ use Rattle.energy_surface.specs.Program.Planes.{plane_of, plane_entry, live_entr
 use Rattle.energy_surface.specs.Program.Solutions.{size, slope}
 use Rattle.energy_surface.specs.Rounds.{Start, IsRound, AreRefuted, own_of, after}
 use Rattle.energy_surface.specs.Surfaces.{Surface}
+use Rattle.answer_sizes.proofs.Rounding.{floor_small}
 use Rattle.exact_lp.proofs.Exports.{spans_above, columns_kept, pivots_keep, basis_kept, start_is_basis, start_is_optimal, slope_small}
 
 -- ---- an entry of a plane
-entry_floor : (y : ℤ) (s : ℕ) → 0 < s → unsigned_abs y ≤ 2 ^ 70 * s → unsigned_abs (floor_over y s) ≤ 2 ^ 70
-entry_floor (pos a) s some h = omega (arith, quotient_below a s (2 ^ 70 + 1) some (omega (arith, some, h)))
-  where
-    quotient_below : (a s limit : ℕ) → 0 < s → a < limit * s → a / s < limit
-    quotient_below a s limit h k = (div-lt_iff_lt-mul h).1 k
-entry_floor (negsuc a) s some h = omega (arith, quotient_below a s (2 ^ 70) some (omega (arith, h)))
-  where
-    quotient_below : (a s limit : ℕ) → 0 < s → a < limit * s → a / s < limit
-    quotient_below a s limit h k = (div-lt_iff_lt-mul h).1 k
-
 entry_small : (c : Case) (cols : List Column) (at : List ℕ) → AreColumns c.n cols → IsBasis c cols at → IsPureOptimal c.n cols at → (i : ℕ) → i < c.n →
     unsigned_abs (plane_entry c.n cols at i) ≤ 2 ^ 70
 entry_small c cols at good basis optimal i h =
     let l = slope_small c cols at good basis optimal i h in
-    entry_floor (slope c.n (system cols at) (costs_of cols at) i *ℤ pos (2 ^ 30)) (size c.n (system cols at)) (spans_above c cols at basis)
+    floor_small (slope c.n (system cols at) (costs_of cols at) i *ℤ pos (2 ^ 30)) (size c.n (system cols at)) (2 ^ 70) (spans_above c cols at basis)
     (scaled (slope c.n (system cols at) (costs_of cols at) i) (size c.n (system cols at)) l)
   where
     scaled : (l : ℤ) (s : ℕ) → unsigned_abs l ≤ 2 ^ 40 * s → unsigned_abs (l *ℤ pos (2 ^ 30)) ≤ 2 ^ 70 * s

@@ -1,12 +1,11 @@
 -- The slope low of a cell is small where it is there, since the ends of its form are.
-use Rattle.std.proofs.Common.{◌≡◌, ℕ, ◌+◌, ◌*◌, ◌/◌, ◌^◌, ◌<◌, ◌≤◌, ◌==◌, ◌⊎◌, inl, inr, Bool, true, false, Option, Some, None, List, ℤ, pos, negsuc, ◌+ℤ◌, ◌-ℤ◌, ◌*ℤ◌, unsigned_abs, slice_index, refl, arith}
+use Rattle.std.proofs.Common.{◌≡◌, ℕ, ◌+◌, ◌*◌, ◌/◌, ◌^◌, ◌<◌, ◌≤◌, ◌==◌, ◌⊎◌, inl, inr, Bool, true, false, Option, Some, None, List, ℤ, pos, ◌+ℤ◌, ◌-ℤ◌, ◌*ℤ◌, unsigned_abs, slice_index, refl, arith, lit<}
 use Rattle.std.specs.Prelude.{option_map}
 use Rattle.std.specs.Int.{int_min}
 use Rattle.std.proofs.Math.Nat.{mul-le-mul}
 use Rattle.std.proofs.lemmas.Int.{ints, clamps, unsigned_abs-mul}
 use Rattle.log_laws.specs.Between.{Ends}
 use Rattle.log_laws.specs.Sums.{int_sum_below}
-use Rattle.log_laws.specs.Whole.{floor_over}
 use Rattle.fix_interval.specs.Extremes.{least_of_four}
 use Rattle.case_types.specs.Arithmetic.Numbers.{Numbers}
 use Rattle.case_types.specs.Grid.Cells.{Region, packing_edge}
@@ -15,6 +14,7 @@ use Rattle.slope_form.specs.Arithmetic.{difference_of_ends}
 use Rattle.slope_form.specs.Forms.{Form, slope_of, difference_form}
 use Rattle.slope_form.specs.Meaning.{least_step, low_of}
 use Rattle.slope_form.proofs.Exports.{capped_some, both_some, form_from_some, each_some}
+use Rattle.answer_sizes.proofs.Rounding.{floor_small}
 use Rattle.tangent_bound.specs.SlopeLows.{MixForms, PackingForms, mix_forms, packing_forms, cell_form, step_from, step_to, slope_low}
 
 -- ---- the ends of the form
@@ -65,14 +65,10 @@ product_small x y h k = sized (unsigned_abs x) (unsigned_abs y) (x *ℤ y) (unsi
     sized : (a b : ℕ) (z : ℤ) → unsigned_abs z ≡ a * b → a * b ≤ 2 ^ 61 * 2 ^ 40 → unsigned_abs z ≤ 2 ^ 101
     sized a b z e l = omega (arith, e, l)
 
-floor_small : (z : ℤ) → unsigned_abs z ≤ 2 ^ 101 → unsigned_abs (floor_over z (2 ^ 40)) ≤ 2 ^ 61 + 1
-floor_small (pos a) h = omega (arith, ints, h)
-floor_small (negsuc a) h = omega (arith, ints, h)
-
 step_small : (v : Ends) (a b : ℤ) → unsigned_abs v.lo < 2 ^ 61 → unsigned_abs v.hi < 2 ^ 61 → unsigned_abs a ≤ 2 ^ 40 → unsigned_abs b ≤ 2 ^ 40 →
-    unsigned_abs (least_step v a b) ≤ 2 ^ 61 + 1
+    unsigned_abs (least_step v a b) ≤ 2 ^ 61
 step_small v a b lo hi ha hb =
-    floor_small (least_of_four (v.lo *ℤ a) (v.lo *ℤ b) (v.hi *ℤ a) (v.hi *ℤ b))
+    floor_small (least_of_four (v.lo *ℤ a) (v.lo *ℤ b) (v.hi *ℤ a) (v.hi *ℤ b)) (2 ^ 40) (2 ^ 61) (lit< tt)
     (least_of (λ (z : ℤ). unsigned_abs z ≤ 2 ^ 101) (v.lo *ℤ a) (v.lo *ℤ b) (v.hi *ℤ a) (v.hi *ℤ b)
     (product_small v.lo a lo ha) (product_small v.lo b lo hb) (product_small v.hi a hi ha) (product_small v.hi b hi hb))
 
@@ -80,11 +76,11 @@ step_small v a b lo hi ha hb =
 low_small : (f : Form) (a b : ℕ → ℤ) → IsSmallForm f → ((j : ℕ) → unsigned_abs (a j) ≤ 2 ^ 40) → ((j : ℕ) → unsigned_abs (b j) ≤ 2 ^ 40) → unsigned_abs (low_of f a b) ≤ 2 ^ 64
 unfolding int_sum_below
 low_small f a b small ha hb =
-    let step : (j : ℕ) → j < 4 → unsigned_abs (least_step (slope_of f j) (a j) (b j)) ≤ 2 ^ 61 + 1 = λ j l. step_small (slope_of f j) (a j) (b j) (small.lows j l) (small.highs j l) (ha j) (hb j) in
+    let step : (j : ℕ) → j < 4 → unsigned_abs (least_step (slope_of f j) (a j) (b j)) ≤ 2 ^ 61 = λ j l. step_small (slope_of f j) (a j) (b j) (small.lows j l) (small.highs j l) (ha j) (hb j) in
     added f.at.lo (least_step (slope_of f 0) (a 0) (b 0)) (least_step (slope_of f 1) (a 1) (b 1)) (least_step (slope_of f 2) (a 2) (b 2)) (least_step (slope_of f 3) (a 3) (b 3))
     small.at (step 0 (omega arith)) (step 1 (omega arith)) (step 2 (omega arith)) (step 3 (omega arith))
   where
-    added : (z a b c d : ℤ) → unsigned_abs z < 2 ^ 61 → unsigned_abs a ≤ 2 ^ 61 + 1 → unsigned_abs b ≤ 2 ^ 61 + 1 → unsigned_abs c ≤ 2 ^ 61 + 1 → unsigned_abs d ≤ 2 ^ 61 + 1 →
+    added : (z a b c d : ℤ) → unsigned_abs z < 2 ^ 61 → unsigned_abs a ≤ 2 ^ 61 → unsigned_abs b ≤ 2 ^ 61 → unsigned_abs c ≤ 2 ^ 61 → unsigned_abs d ≤ 2 ^ 61 →
         unsigned_abs (z +ℤ ((((pos 0 +ℤ a) +ℤ b) +ℤ c) +ℤ d)) ≤ 2 ^ 64
     added z a b c d h ha hb hc hd = omega (arith, ints, h, ha, hb, hc, hd)
 
