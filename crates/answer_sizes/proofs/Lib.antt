@@ -1,0 +1,13 @@
+pub mod Rounding
+pub mod UpperSize
+pub mod PlaneSize
+pub mod PlaneOver
+pub mod InOrder
+pub mod AnInstance
+pub mod LowBelow
+pub mod LogSizes
+pub mod Inside
+pub mod SlopeSize
+pub mod PlainSize
+pub mod LowAbove
+pub mod AnswersSmall
