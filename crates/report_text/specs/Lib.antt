@@ -1,5 +1,6 @@
 pub mod Joules
 pub mod Pieces
 pub mod RefusalText
+pub mod VerdictText
 pub mod ReportText
 pub mod Statuses

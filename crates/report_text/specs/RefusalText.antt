@@ -57,3 +57,11 @@ range_fault_text (ARange i j) = placed_twice (codes "ARange") i j
 abbrev pub case_fault_text : CaseFault → List ℕ
 case_fault_text (NoName name) = placed (codes "NoName") name
 case_fault_text (Param fault) = range_fault_text fault
+
+-- the input couldn't be read
+abbrev pub unread_text : List ℕ
+unread_text = codes "refused read\n"
+
+-- the input has more bytes than it may have
+abbrev pub too_long_text : List ℕ
+too_long_text = codes "refused long\n"

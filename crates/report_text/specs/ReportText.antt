@@ -17,11 +17,13 @@ use Rattle.pr_params.specs.declared.numbers.Params.{Params}
 use Rattle.case_types.specs.Energy.Printed.{enclosures_in}
 use Rattle.case_words.specs.Names.{text_of}
 use Rattle.component_table.specs.declared.cases.Picked.{Picked}
+use Rattle.cert_format.specs.Writing.{certificate_text}
 use Rattle.report_text.specs.declared.ends.End.{End}
 use Rattle.report_text.specs.declared.ends.End.TheVariants as end
 use Rattle.report_text.specs.Pieces.{texts_below, line, ends_line, millionths_text}
 use Rattle.report_text.specs.Joules.{millijoules}
-use Rattle.report_text.specs.RefusalText.{word_fault_text, table_fault_text, case_fault_text}
+use Rattle.report_text.specs.RefusalText.{word_fault_text, table_fault_text, case_fault_text, unread_text, too_long_text}
+use Rattle.report_text.specs.VerdictText.{verdict_text}
 
 -- the name of a component
 abbrev pub name_text : Case → ℕ → List ℕ
@@ -121,9 +123,11 @@ flash_text p picked tol a =
 -- what is printed at each end
 abbrev pub report_text : End → List ℕ
 report_text (end.Words fault) = line (codes "refused words ") (word_fault_text fault)
-report_text end.Read = codes "refused read\n"
-report_text end.TooLong = codes "refused long\n"
+report_text end.Read = unread_text
+report_text end.TooLong = too_long_text
 report_text (end.Table fault) = line (codes "refused table ") (table_fault_text fault)
 report_text (end.Case fault) = line (codes "refused case ") (case_fault_text fault)
 report_text (end.Flash params picked tol answer) = flash_text params picked tol answer
+report_text (end.Cert params answer) = certificate_text params answer
+report_text (end.Checked verdict) = verdict_text verdict
 report_text end.Memory = []

@@ -1,7 +1,8 @@
 //! What a run came to, and the text of it.
 //!
-//! [`report`] makes the text of an [`End`]: of a refusal one line, of a flash the report, and of want of memory nothing. What
-//! the lines are stands in `specs/ReportText.antt`, byte for byte.
+//! [`report`] makes the text of an [`End`]: of a refusal one line, of a flash the report or the certificate, of a
+//! certificate that was checked the verdict, and of want of memory nothing. What the lines are stands in `specs/ReportText.antt` and
+//! `specs/VerdictText.antt`, byte for byte.
 #![tactic(auto)]
 
 mod enclosures;
@@ -12,6 +13,9 @@ mod refusals;
 mod report_tests;
 mod reports;
 mod texts;
+#[cfg(test)]
+mod verdict_tests;
+mod verdict_texts;
 
 pub use ends::End;
 pub use reports::report;

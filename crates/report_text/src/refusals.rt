@@ -89,7 +89,7 @@ fn name_of(fault: DecFault) -> &'static str
 }
 
 /// Appends a fault and its place.
-fn put_placed<I: Integer>(out: &mut Vec<u8>, fault: &str, place: I) -> Result<(), AllocError>
+pub fn put_placed<I: Integer>(out: &mut Vec<u8>, fault: &str, place: I) -> Result<(), AllocError>
     ensures { OnOk result (Adds out.old.items out.new.items (fault.now ++ codes " " ++ I.text place)) }
 {
     put_text(out, fault)?;

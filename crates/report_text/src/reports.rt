@@ -12,8 +12,10 @@ use crate::ends::End;
 use crate::joules::millijoules;
 use crate::refusals::{put_case_fault, put_table_fault, put_word_fault};
 use crate::texts::{head_of, label_of, put_fixed, put_fixed_line, put_line, put_millionths};
+use crate::verdict_texts::put_verdict;
 use case_types::{Answer, Case, Phase, Plane, SLOTS, Split};
 use case_words::put_name;
+use cert_format::put_certificate;
 use component_table::Picked;
 use dec_text::{put_number, put_text};
 use density_boxes::moles;
@@ -50,6 +52,8 @@ pub fn report(alloc: Global, end: &End) -> Result<Vec<u8>, AllocError>
         End::Flash(params, picked, tol, answer) => {
             put_flash(&mut out, params, picked, *tol, answer)?
         }
+        End::Cert(params, answer) => put_certificate(&mut out, params, answer)?,
+        End::Checked(verdict) => put_verdict(&mut out, *verdict)?,
         End::Memory => {}
     }
     Ok(out)
