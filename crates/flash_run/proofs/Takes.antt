@@ -1,13 +1,19 @@
--- What an end that comes of words and of a whole table says of the source.
+-- What an end that comes of a job says of the source.
 use Rattle.std.proofs.Common.{◌≡◌, ℕ, ◌+◌, ◌≤◌, List, [], refl, sym, subst, arith}
+use Rattle.std.specs.Prelude.{Bool, Result, Ok}
 use Rattle.std.specs.declared.option.Option.{Option}
 use Rattle.std.specs.declared.option.Option.TheVariants.{None, Some}
+use Rattle.case_words.specs.Jobs.{Asked, PlainJob}
+use Rattle.case_words.specs.declared.faults.WordFault.{WordFault}
+use Rattle.cert_check.specs.Streams.{limit}
 use Rattle.io_edge.specs.Bytes.{ahead}
 use Rattle.io_edge.specs.Reading.{TakesAtMost}
 use Rattle.report_text.specs.declared.ends.End.{End}
-use Rattle.report_text.specs.declared.ends.End.TheVariants.{Words, Read, TooLong, Table, Case, Flash, Memory}
-use Rattle.flash_run.specs.Headline.{table_limit}
-use Rattle.flash_run.specs.Ends.{Takes, TakesWhole}
+use Rattle.report_text.specs.declared.ends.End.TheVariants.{Words, Read, TooLong, Table, Case, Flash, Cert, Checked, Memory}
+use Rattle.flash_run.specs.declared.wanted.Wanted.{Wanted}
+use Rattle.flash_run.specs.declared.wanted.Wanted.TheVariants.{Report, Certificate}
+use Rattle.flash_run.specs.Headline.{table_limit, IsAll}
+use Rattle.flash_run.specs.Ends.{TakesWhole, IsJudged, Works, input_limit, job_for}
 
 nothing_ahead : (left : Option (List ℕ)) → left ≡ ahead [] left
 nothing_ahead None = refl
@@ -20,14 +26,35 @@ none n left left' same =
 more : (m n : ℕ) (left left' : Option (List ℕ)) → m ≤ n → TakesAtMost m left left' → TakesAtMost n left left'
 more m n left left' h t = record { bytes = t.bytes; short = (let s = t.short in omega (arith, s, h)); taken = t.taken }
 
-whole : (n : ℕ) (left left' : Option (List ℕ)) → table_limit ≤ n → TakesWhole left left' → TakesAtMost n left left'
-whole n left left' h (bytes, all) = record { bytes = bytes; short = (let s = all.short in omega (arith, s, h)); taken = all.taken }
+table_limited : (job : Result PlainJob WordFault) (wanted : Wanted) (asked : Asked) → job ≡ Ok (job_for wanted asked) → input_limit job ≡ table_limit
+table_limited job Report asked e = rw e refl
+table_limited job Certificate asked e = rw e refl
 
-pub takes_at_most : (e : End) (left left' : Option (List ℕ)) → Takes e left left' → TakesAtMost (table_limit + 1) left left'
-takes_at_most (Words fault) left left' t = none (table_limit + 1) left left' t
-takes_at_most Read left left' t = more table_limit (table_limit + 1) left left' (omega arith) t
-takes_at_most TooLong left left' t = record { bytes = t.bytes; short = (let s = t.counted in omega (arith, s)); taken = t.taken }
-takes_at_most (Table fault) left left' t = whole (table_limit + 1) left left' (omega arith) t
-takes_at_most (Case fault) left left' t = whole (table_limit + 1) left left' (omega arith) t
-takes_at_most (Flash params picked tol answer) left left' t = whole (table_limit + 1) left left' (omega arith) t
-takes_at_most Memory left left' t = t
+whole : (job : Result PlainJob WordFault) (left left' : Option (List ℕ)) (end : End) → IsJudged job left left' end → TakesWhole left left'
+    → TakesAtMost (input_limit job + 1) left left'
+whole job left left' end judged (bytes, all) =
+    let limited = table_limited job judged.wanted judged.asked judged.asks in
+    record { bytes = bytes; short = (let s = all.short in omega (arith, s, limited)); taken = all.taken }
+
+pub flash_at_most : (wanted : Wanted) (asked : Asked) (left left' : Option (List ℕ)) (bytes : List ℕ) → IsAll left left' bytes
+    → TakesAtMost (input_limit (Ok (job_for wanted asked)) + 1) left left'
+flash_at_most wanted asked left left' bytes all =
+    let limited = table_limited (Ok (job_for wanted asked)) wanted asked refl in
+    record { bytes = bytes; short = (let s = all.short in omega (arith, s, limited)); taken = all.taken }
+
+pub takes_at_most : (job : Result PlainJob WordFault) (e : End) (left left' : Option (List ℕ)) (faults faults' : ℕ) (failed' : Bool)
+    → Works job left left' faults faults' failed' e → TakesAtMost (input_limit job + 1) left left'
+takes_at_most job (Words fault) left left' faults faults' failed' w = none (input_limit job + 1) left left' w.takes
+takes_at_most job Read left left' faults faults' failed' w = more (input_limit job) (input_limit job + 1) left left' (omega arith) w.takes
+takes_at_most job TooLong left left' faults faults' failed' w =
+    record { bytes = w.takes.bytes; short = (let s = w.takes.counted in omega (arith, s)); taken = w.takes.taken }
+takes_at_most job (Table fault) left left' faults faults' failed' w = whole job left left' (Table fault) w.cause w.takes
+takes_at_most job (Case fault) left left' faults faults' failed' w = whole job left left' (Case fault) w.cause w.takes
+takes_at_most job (Flash params picked tol answer) left left' faults faults' failed' w =
+    whole job left left' (Flash params picked tol answer) w.cause w.takes
+takes_at_most job (Cert params answer) left left' faults faults' failed' w = whole job left left' (Cert params answer) w.cause w.takes
+takes_at_most job (Checked verdict) left left' faults faults' failed' w =
+    let asks = w.cause.0.asks in
+    let limited : input_limit job ≡ limit = rw asks refl in
+    more (limit + 1) (input_limit job + 1) left left' (omega (arith, limited)) w.takes.taken
+takes_at_most job Memory left left' faults faults' failed' w = w.takes

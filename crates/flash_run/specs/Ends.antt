@@ -1,10 +1,12 @@
 -- What an end says of its cause and of the source.
-use Rattle.std.specs.Prelude.{◌≡◌, ⊤, ℕ, ◌+◌, ◌⊎◌, List, Ok, Err, Some}
+use Rattle.std.specs.Prelude.{◌≡◌, ◌≢◌, ⊤, ℕ, ℤ, Bool, true, Result, ◌+◌, ◌⊎◌, List, Ok, Err, Some}
 use Rattle.std.specs.declared.option.Option.{Option}
 use Rattle.case_types.specs.declared.cases.ParamFault.{ParamFault}
 use Rattle.case_types.specs.Arithmetic.Faults.{fault_of}
 use Rattle.case_types.specs.Arithmetic.Numbers.{numbers_of}
-use Rattle.case_words.specs.Jobs.{Asked, PlainTp, job_of}
+use Rattle.case_types.specs.declared.answers.Answer.{Answer}
+use Rattle.case_words.specs.Jobs.{Asked, PlainJob, PlainTp, PlainCert, PlainCheck}
+use Rattle.case_words.specs.declared.faults.WordFault.{WordFault}
 use Rattle.component_table.specs.declared.cases.CaseFault.{CaseFault}
 use Rattle.component_table.specs.declared.cases.CaseFault.TheVariants.{Param}
 use Rattle.component_table.specs.declared.cases.Picked.{Picked}
@@ -13,14 +15,22 @@ use Rattle.component_table.specs.Picking.{Refuses}
 use Rattle.component_table.specs.Tables.{Held, table_of}
 use Rattle.energy_surface.specs.Lawful.{IsLawful}
 use Rattle.pr_surface.specs.PengRobinson.{surface_of}
+use Rattle.pr_params.specs.declared.numbers.Params.{Params}
+use Rattle.cert_lines.specs.declared.faults.CertFault.TheVariants.{TooLong as LongText}
+use Rattle.cert_format.specs.declared.verdicts.Verdict.{Verdict}
+use Rattle.cert_format.specs.declared.verdicts.Verdict.TheVariants.{Accepted, Refused, ReadFault, Memory as NoMemory}
+use Rattle.cert_check.specs.Streams.{limit, IsStreamVerdict}
+use Rattle.io_edge.specs.Bytes.{IsSpent}
 use Rattle.io_edge.specs.Causes.{CountsFault}
 use Rattle.io_edge.specs.Reading.{TakesAtMost, TakesExactly}
 use Rattle.report_text.specs.declared.ends.End.{End}
-use Rattle.report_text.specs.declared.ends.End.TheVariants.{Words, Read, TooLong, Table, Case, Flash, Memory}
-use Rattle.flash_run.specs.Headline.{table_limit, IsAll, IsCase}
+use Rattle.report_text.specs.declared.ends.End.TheVariants.{Words, Read, TooLong, Table, Case, Flash, Cert, Checked, Memory}
+use Rattle.flash_run.specs.declared.wanted.Wanted.{Wanted}
+use Rattle.flash_run.specs.declared.wanted.Wanted.TheVariants.{Report, Certificate}
+use Rattle.flash_run.specs.Headline.{table_limit, IsAll, IsCase, Answers, Accepts}
 
 -- ---- the source
--- one fault of the source was counted at Read, and none where words, table or case were judged
+-- one fault of the source was counted at Read, and none where words, table, case or certificate were judged
 abbrev pub CountsRead : End → ℕ → ℕ → Type 0
 CountsRead (Words fault) faults faults' = faults' ≡ faults
 CountsRead Read faults faults' = CountsFault faults faults'
@@ -28,22 +38,38 @@ CountsRead TooLong faults faults' = faults' ≡ faults
 CountsRead (Table fault) faults faults' = faults' ≡ faults
 CountsRead (Case fault) faults faults' = faults' ≡ faults
 CountsRead (Flash params picked tol answer) faults faults' = faults' ≡ faults
+CountsRead (Cert params answer) faults faults' = faults' ≡ faults
+CountsRead (Checked verdict) faults faults' = faults' ≡ faults
 CountsRead Memory faults faults' = (faults' ≡ faults) ⊎ CountsFault faults faults'
 
 -- the source was read to its end
 abbrev pub TakesWhole : Option (List ℕ) → Option (List ℕ) → Type 0
 TakesWhole left left' = (bytes : List ℕ) × IsAll left left' bytes
 
+-- the most bytes of the input of a job: of a table, or of a certificate
+abbrev pub input_limit : Result PlainJob WordFault → ℕ
+input_limit (Err fault) = 0
+input_limit (Ok (PlainTp asked)) = table_limit
+input_limit (Ok (PlainCert asked)) = table_limit
+input_limit (Ok PlainCheck) = limit
+
+-- a certificate that is accepted was read to its end, and of another at most one byte past the limit was taken
+pub record TakesCertificate (verdict : Verdict) (left left' : Option (List ℕ)) : Type 0 where
+  pub taken : TakesAtMost (limit + 1) left left'
+  pub ended : (u gap : ℤ) → verdict ≡ Accepted u gap → IsSpent left'
+
 -- nothing is taken where words are refused, and the whole table before it or its case are judged; the next byte past the
--- limit was taken exactly at TooLong, and only where memory was wanting may that byte be taken elsewhere
-abbrev pub Takes : End → Option (List ℕ) → Option (List ℕ) → Type 0
-Takes (Words fault) left left' = left' ≡ left
-Takes Read left left' = TakesAtMost table_limit left left'
-Takes TooLong left left' = TakesExactly (table_limit + 1) left left'
-Takes (Table fault) left left' = TakesWhole left left'
-Takes (Case fault) left left' = TakesWhole left left'
-Takes (Flash params picked tol answer) left left' = TakesWhole left left'
-Takes Memory left left' = TakesAtMost (table_limit + 1) left left'
+-- limit was taken exactly at TooLong, and else only where memory was wanting or a certificate ended at the limit may it be
+abbrev pub Takes : Result PlainJob WordFault → End → Option (List ℕ) → Option (List ℕ) → Type 0
+Takes job (Words fault) left left' = left' ≡ left
+Takes job Read left left' = TakesAtMost (input_limit job) left left'
+Takes job TooLong left left' = TakesExactly (input_limit job + 1) left left'
+Takes job (Table fault) left left' = TakesWhole left left'
+Takes job (Case fault) left left' = TakesWhole left left'
+Takes job (Flash params picked tol answer) left left' = TakesWhole left left'
+Takes job (Cert params answer) left left' = TakesWhole left left'
+Takes job (Checked verdict) left left' = TakesCertificate verdict left left'
+Takes job Memory left left' = TakesAtMost (input_limit job + 1) left left'
 
 -- ---- the cause
 -- the first name that has no component in the table of these bytes
@@ -60,36 +86,73 @@ pub record IsRefusedRange (asked : Asked) (bytes : List ℕ) (fault : CaseFault)
   pub is : fault ≡ Param range
   pub refused : fault_of picked.case ≡ Some range
 
+-- what the words ask for where this is wanted of a flash
+abbrev pub job_for : Wanted → Asked → PlainJob
+job_for Report asked = PlainTp asked
+job_for Certificate asked = PlainCert asked
+
+-- the list of work of an answer is lawful
+abbrev pub IsLawfulFor : Asked → Params → Answer → Type 0
+IsLawfulFor asked params answer = IsLawful (surface_of (numbers_of params.case)) params.case asked.tol asked.budget answer
+
 -- what comes of what is asked and of the bytes of a table; want of memory has no cause here
-abbrev pub Judges : Asked → List ℕ → End → Type 0
-Judges asked bytes (Words fault) = ⊥
-Judges asked bytes Read = ⊥
-Judges asked bytes TooLong = ⊥
-Judges asked bytes (Table fault) = table_of (records_of bytes) ≡ Err fault
-Judges asked bytes (Case fault) = IsRefusedName asked bytes fault ⊎ IsRefusedRange asked bytes fault
-Judges asked bytes (Flash params picked tol answer) =
-    IsLawful (surface_of (numbers_of params.case)) params.case asked.tol asked.budget answer
-Judges asked bytes Memory = ⊤
+abbrev pub Judges : Wanted → Asked → List ℕ → End → Type 0
+Judges wanted asked bytes (Words fault) = ⊥
+Judges wanted asked bytes Read = ⊥
+Judges wanted asked bytes TooLong = ⊥
+Judges wanted asked bytes (Table fault) = table_of (records_of bytes) ≡ Err fault
+Judges wanted asked bytes (Case fault) = IsRefusedName asked bytes fault ⊎ IsRefusedRange asked bytes fault
+Judges wanted asked bytes (Flash params picked tol answer) = (wanted ≡ Report) × IsLawfulFor asked params answer
+Judges wanted asked bytes (Cert params answer) = (wanted ≡ Certificate) × IsLawfulFor asked params answer
+Judges wanted asked bytes (Checked verdict) = ⊥
+Judges wanted asked bytes Memory = ⊤
 
--- the words ask for a flash
-pub record Asks (words : List (List ℕ)) : Type 0 where
+-- the job is a flash
+pub record Flashes (job : Result PlainJob WordFault) : Type 0 where
+  pub wanted : Wanted
   pub asked : Asked
-  pub is : job_of words ≡ Ok (PlainTp asked)
+  pub is : job ≡ Ok (job_for wanted asked)
 
--- what comes of words that ask for a flash and of all bytes of the source
-pub record IsJudged (words : List (List ℕ)) (left left' : Option (List ℕ)) (end : End) : Type 0 where
+-- what comes of a flash and of all bytes of the source
+pub record IsJudged (job : Result PlainJob WordFault) (left left' : Option (List ℕ)) (end : End) : Type 0 where
+  pub wanted : Wanted
   pub asked : Asked
-  pub asks : job_of words ≡ Ok (PlainTp asked)
+  pub asks : job ≡ Ok (job_for wanted asked)
   pub bytes : List ℕ
   pub all : IsAll left left' bytes
-  pub judged : Judges asked bytes end
+  pub judged : Judges wanted asked bytes end
+
+-- the verdict on the certificate that the source has left, where it tells its bytes
+pub record IsChecked (job : Result PlainJob WordFault) (left : Option (List ℕ)) (verdict : Verdict) : Type 0 where
+  pub asks : job ≡ Ok PlainCheck
+  pub told : (bytes : List ℕ) → left ≡ Some bytes → IsStreamVerdict bytes verdict
+
+-- the end that a verdict comes to
+abbrev pub end_of : Verdict → End
+end_of ReadFault = Read
+end_of NoMemory = Memory
+end_of (Refused LongText) = TooLong
+end_of verdict = Checked verdict
 
 -- why a run comes to this end
-abbrev pub Comes : List (List ℕ) → Option (List ℕ) → Option (List ℕ) → End → Type 0
-Comes words left left' (Words fault) = job_of words ≡ Err fault
-Comes words left left' Read = Asks words
-Comes words left left' TooLong = Asks words
-Comes words left left' (Table fault) = IsJudged words left left' (Table fault)
-Comes words left left' (Case fault) = IsJudged words left left' (Case fault)
-Comes words left left' (Flash params picked tol answer) = IsJudged words left left' (Flash params picked tol answer)
-Comes words left left' Memory = ⊤
+abbrev pub Comes : Result PlainJob WordFault → Option (List ℕ) → Option (List ℕ) → End → Type 0
+Comes job left left' (Words fault) = job ≡ Err fault
+Comes job left left' Read = Flashes job ⊎ (job ≡ Ok PlainCheck)
+Comes job left left' TooLong = Flashes job ⊎ IsChecked job left (Refused LongText)
+Comes job left left' (Table fault) = IsJudged job left left' (Table fault)
+Comes job left left' (Case fault) = IsJudged job left left' (Case fault)
+Comes job left left' (Flash params picked tol answer) = IsJudged job left left' (Flash params picked tol answer)
+Comes job left left' (Cert params answer) = IsJudged job left left' (Cert params answer)
+Comes job left left' (Checked verdict) = IsChecked job left verdict × (end_of verdict ≡ Checked verdict)
+Comes job left left' Memory = ⊤
+
+-- ---- the work
+-- what the work of a job came to
+pub record Works (job : Result PlainJob WordFault) (left left' : Option (List ℕ)) (faults faults' : ℕ) (failed' : Bool) (end : End) : Type 0 where
+  pub headline : Answers job left left' end
+  pub accepted : Accepts left end
+  pub takes : Takes job end left left'
+  pub reads : CountsRead end faults faults'
+  pub last_take : end ≡ Read → failed' ≡ true
+  pub last_fault : faults' ≢ faults → failed' ≡ true
+  pub cause : Comes job left left' end

@@ -1,13 +1,16 @@
-//! The top call: from words and a table to a report.
+//! The top call: from words and a table to a report or a certificate, and from a certificate to a verdict.
 //!
-//! [`run`] reads the words and the table, flashes, and writes the report. It answers with the
-//! status and with what it printed, an [`End`].
+//! [`run`] reads the words and the input, flashes or checks, and writes what it came to. It answers with the status and with what it
+//! printed, an [`End`].
 #![tactic(auto)]
 
+mod checking;
 mod ends;
+mod flashing;
 #[cfg(test)]
 mod tests;
 mod top;
+mod wanted;
 
 pub use case_words::Word;
 pub use ends::RunEnd;

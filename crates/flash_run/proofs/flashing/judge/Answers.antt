@@ -1,0 +1,30 @@
+use Rattle.std.proofs.Common.{inr, refl, rules}
+use Rattle.component_table.specs.Views.{held_by}
+use Rattle.flash_run.proofs.flashing.judge.Goals as goal
+
+pub returns-in-Err-params-clause-cause : goal.returns-in-Err-params-clause-cause
+returns-in-Err-params-clause-cause c = inr (record {
+  picked = c.in-Ok-pick.picked;
+  case_is = record {
+    held = held_by c.in-Ok.table;
+    table = c.in-Ok.ensures.table;
+    picks = c.in-Ok-pick.ensures.picked;
+  };
+  range = c.in-Err-params.fault;
+  is = refl;
+  refused = c.in-Err-params.ensures.err;
+})
+
+pub returns-clause-certified : goal.returns-clause-certified
+returns-clause-certified c = (c.in-Ok-pick.picked, record {
+  case_is = record {
+    held = held_by c.in-Ok.table;
+    table = c.in-Ok.ensures.table;
+    picks = c.in-Ok-pick.ensures.picked;
+  };
+  case = search rules;
+  tol_is = refl;
+  within = search rules;
+  certified = search rules;
+  near = search rules;
+})
