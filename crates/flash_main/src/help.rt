@@ -12,14 +12,20 @@ use io_edge::{Sink, write_all};
 const HELP: &str = "\
 usage: flash_main tp T=<K> P=<Pa> z=<parts> names=<names> tol=<n> budget=<n>
                      [kappa=76|78] < table
+       flash_main cert <the words of tp> < table
+       flash_main check < certificate
        flash_main --help
        flash_main --version
 
-Flashes a feed at a temperature and a pressure by the equation of Peng and Robinson,
-and prints its phases, an upper bound of their energy, and a gap: no division of the
-feed into phases has an energy that is lower by more than the gap.
+tp     flashes a feed at a temperature and a pressure by the equation of Peng and
+       Robinson, and prints its phases, an upper bound of their energy, and a gap: no
+       division of the feed into phases has an energy that is lower by more than the gap.
+cert   flashes so, and prints the certificate of its answer, open ones too.
+check  reads a certificate and prints whether it holds. All is computed anew: what is
+       accepted has the stated energy and gap, whatever made the certificate.
 
-Words, in any order and each of them once; only kappa may be left out:
+Words of tp and cert, in any order and each of them once; only kappa may be left out.
+check takes none:
   T=300.15         temperature in K, 50 to 1500, with up to 3 places
   P=1000000        pressure in Pa, 1000 to 100000000
   z=1,0            parts of the feed, one to four whole numbers
@@ -38,19 +44,25 @@ Example:
   printf 'comp,a,300,1000000,0,\\n' | \\
       flash_main tp T=300 P=1000000 z=1 names=a tol=1024 budget=200000
 
-Status: 0 closed; 2 words, 3 table, 4 case refused; 5 open, the budget or the grid was
-spent; 6 reading, 7 writing failed; 8 want of memory; 11 the table is too long.
+Status: 0 closed, or accepted; 2 words, 3 table, 4 case refused; 5 open, the budget or
+the grid was spent; 6 reading, 7 writing failed; 8 want of memory; 9 the certificate is
+refused; 11 the table or the certificate is too long.
 
-A refusal names the first fault. Words, records and fields count from 1, the command
-being word 1; <wrong> is Empty, Sign, Digit, Places or TooLarge.
+A refusal names the first fault. Words, records, fields, components, lines, letters and
+leaves count from 1, the command being word 1; <wrong> is Empty, Sign, Digit, Places or
+TooLarge.
   refused words   NoCommand; Unknown, Twice, Range or Count <word>;
                   Value <word> <wrong>; Missing <key>
   refused table   Fields, Utf8, Kind, UnknownName, Twice or TooMany <record>;
                   Range <record> <field>; Number <record> <field> <wrong>
   refused case    NoName <name>; BRange; BRatio; MRange <component>;
                   ARange <component> <component>
+  refused certificate
+                  Head; Line <line>; Tree <letter>; Cut; Extra <byte>; BadParams;
+                  BadBalance <component>; BadEnergy; BadGap; BadLeaf <leaf>
   refused read    standard input couldn't be read (status 6)
-  refused long    the table has more than 4194304 bytes (status 11)
+  refused long    the table has more than 4194304 bytes, or the certificate more than
+                  67108864 (status 11)
 ";
 
 /// The version of the program.
