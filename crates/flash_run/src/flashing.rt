@@ -18,12 +18,7 @@ use std::alloc::Global;
 const LIMIT: usize = 4_194_304;
 
 /// What comes of what is asked and of the table on the source.
-pub fn flash_job<S: Source>(
-    alloc: Global,
-    wanted: Wanted,
-    job: &FlashWords,
-    source: &mut S,
-) -> End
+pub fn flash_job<S: Source>(alloc: Global, wanted: Wanted, job: &FlashWords, source: &mut S) -> End
     ensures { Works (Ok (job_for wanted (asked_by job.now))) (S.left source.old) (S.left source.new)
         (S.faults source.old) (S.faults source.new) (S.failed source.new) result }
 {

@@ -4,6 +4,8 @@
 //! printed, an [`End`].
 #![tactic(auto)]
 
+#[cfg(test)]
+mod certificate_tests;
 mod checking;
 mod ends;
 mod flashing;

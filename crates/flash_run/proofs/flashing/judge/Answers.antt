@@ -16,15 +16,18 @@ returns-in-Err-params-clause-cause c = inr (record {
 })
 
 pub returns-clause-certified : goal.returns-clause-certified
-returns-clause-certified c = (c.in-Ok-pick.picked, record {
-  case_is = record {
-    held = held_by c.in-Ok.table;
-    table = c.in-Ok.ensures.table;
-    picks = c.in-Ok-pick.ensures.picked;
-  };
-  case = search rules;
-  tol_is = refl;
-  within = search rules;
-  certified = search rules;
-  near = search rules;
-})
+returns-clause-certified c = (
+  c.in-Ok-pick.picked,
+  record {
+    case_is = record {
+      held = held_by c.in-Ok.table;
+      table = c.in-Ok.ensures.table;
+      picks = c.in-Ok-pick.ensures.picked;
+    };
+    case = search rules;
+    tol_is = refl;
+    within = search rules;
+    certified = search rules;
+    near = search rules;
+  },
+)
