@@ -154,6 +154,60 @@ fn judges_certificates(rt: HostRuntime) -> Result<(), Fail> {
     Ok(())
 }
 
+/// Words, the input, the status and the refusal of their run.
+const REFUSED: [(&str, &str, u8, &str); 13] = [
+    ("cert", "", 2, "refused words Missing T\n"),
+    ("cert X=1", "", 2, "refused words Unknown 2\n"),
+    (
+        "cert T=300 P=1000000 z=1 names=a tol=1024",
+        "",
+        2,
+        "refused words Missing budget\n",
+    ),
+    ("check x=1", "", 2, "refused words Unknown 2\n"),
+    ("check T=300 T=300", "", 2, "refused words Unknown 2\n"),
+    (WORDS, "", 3, "refused table Fields 1\n"),
+    (
+        "cert T=150 P=10000 z=1,1 names=methane,z tol=1024 budget=10",
+        TABLE,
+        4,
+        "refused case NoName 2\n",
+    ),
+    (
+        "cert T=1200 P=1000000 z=1 names=a tol=1024 budget=10",
+        "comp,a,300,1000000,1.5,\n",
+        4,
+        "refused case MRange 1\n",
+    ),
+    ("check", "", 9, "refused certificate Cut\n"),
+    ("check", TABLE, 9, "refused certificate Head\n"),
+    ("check", "prflash-cert 9\n", 9, "refused certificate Head\n"),
+    (
+        "check",
+        "prflash-cert 2\nT 0\n",
+        9,
+        "refused certificate Line 2\n",
+    ),
+    (
+        "check",
+        "prflash-cert 2\nT 0",
+        9,
+        "refused certificate Cut\n",
+    ),
+];
+
+#[test]
+fn refuses_certificates_with_name_and_place(rt: HostRuntime) -> Result<(), Fail> {
+    let alloc = rt.alloc();
+    for (words, input, want, text) in REFUSED {
+        let input = input.as_bytes().to_vec(alloc)?;
+        let (status, sink) = run_in_pieces(alloc, words, input, 10, &[], &[])?;
+        assert_eq!(rt; status, want, "{words}");
+        assert_eq!(rt; sink.held(), text.as_bytes(), "{words}");
+    }
+    Ok(())
+}
+
 #[test]
 fn ends_a_check_with_status_and_text(rt: HostRuntime) -> Result<(), Fail> {
     let alloc = rt.alloc();
@@ -218,20 +272,4 @@ fn fails_at_each_call_of_cert(rt: HostRuntime) -> Result<(), Fail> {
 fn fails_at_each_call_of_check(rt: HostRuntime) -> Result<(), Fail> {
     let text = joined(rt.alloc(), NUMBERS, LETTERS, "end\n")?;
     fail_each_call(&rt, rt.alloc(), "check", &text, 46)
-}
-
-#[test]
-fn refuses_long_certificates(rt: HostRuntime) -> Result<(), Fail> {
-    let alloc = rt.alloc();
-    // A text at the limit is read to its end, and one byte more is too long.
-    for (length, want, verdict) in [
-        (67_108_864, 9, "refused certificate Cut\n"),
-        (67_108_865, 11, "refused long\n"),
-    ] {
-        let text = vec![in alloc; b'a'; length]?;
-        let (status, sink) = run_in_pieces(alloc, "check", text, 4096, &[], &[])?;
-        assert_eq!(rt; status, want);
-        assert_eq!(rt; sink.held(), verdict.as_bytes());
-    }
-    Ok(())
 }

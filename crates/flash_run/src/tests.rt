@@ -46,7 +46,7 @@ pub fn run_in_pieces(
 }
 
 /// Words, a table, the status and the report of their run.
-const REFUSED: [(&str, &str, u8, &str); 46] = [
+const REFUSED: [(&str, &str, u8, &str); 33] = [
     // Words.
     ("", "", 2, "refused words NoCommand\n"),
     ("pt T=300", "", 2, "refused words NoCommand\n"),
@@ -84,16 +84,6 @@ const REFUSED: [(&str, &str, u8, &str); 46] = [
         "refused words Value 8 Digit\n",
     ),
     ("tp", "", 2, "refused words Missing T\n"),
-    ("cert", "", 2, "refused words Missing T\n"),
-    ("cert X=1", "", 2, "refused words Unknown 2\n"),
-    (
-        "cert T=300 P=1000000 z=1 names=a tol=1024",
-        "",
-        2,
-        "refused words Missing budget\n",
-    ),
-    ("check x=1", "", 2, "refused words Unknown 2\n"),
-    ("check T=300 T=300", "", 2, "refused words Unknown 2\n"),
     // Tables.
     (WORDS, "", 3, "refused table Fields 1\n"),
     (
@@ -116,12 +106,6 @@ const REFUSED: [(&str, &str, u8, &str); 46] = [
         "refused table UnknownName 2\n",
     ),
     (WORDS, "mix,a,1,1,1,\n", 3, "refused table Kind 1\n"),
-    (
-        "cert T=300 P=1000000 z=1 names=a tol=1024 budget=10",
-        "",
-        3,
-        "refused table Fields 1\n",
-    ),
     // Names.
     (
         "tp T=300 P=1000000 z=1,1 names=a,z tol=1024 budget=10",
@@ -135,19 +119,7 @@ const REFUSED: [(&str, &str, u8, &str); 46] = [
         4,
         "refused case NoName 2\n",
     ),
-    (
-        "cert T=300 P=1000000 z=1,1 names=a,z tol=1024 budget=10",
-        TABLE,
-        4,
-        "refused case NoName 2\n",
-    ),
     // Ranges of the parameters.
-    (
-        "cert T=1200 P=1000000 z=1 names=a tol=1024 budget=10",
-        "comp,a,300,1000000,1.5,\n",
-        4,
-        "refused case MRange 1\n",
-    ),
     (
         "tp T=1200 P=1000000 z=1 names=a tol=1024 budget=10",
         "comp,a,300,1000000,1.5,\n",
@@ -183,27 +155,6 @@ const REFUSED: [(&str, &str, u8, &str); 46] = [
         "comp,a,300,1000000,0,\ncomp,b,300,1000000,1.5,\n",
         4,
         "refused case MRange 2\n",
-    ),
-    // Certificates.
-    ("check", "", 9, "refused certificate Cut\n"),
-    ("check", "prflash-cert 9\n", 9, "refused certificate Head\n"),
-    (
-        "check",
-        "comp,a,300,1000000,0,\n",
-        9,
-        "refused certificate Head\n",
-    ),
-    (
-        "check",
-        "prflash-cert 2\nT 0\n",
-        9,
-        "refused certificate Line 2\n",
-    ),
-    (
-        "check",
-        "prflash-cert 2\nT 0",
-        9,
-        "refused certificate Cut\n",
     ),
     // The first of several faults.
     ("tp T=5x P=0", "mix\n", 2, "refused words Value 2 Digit\n"),
