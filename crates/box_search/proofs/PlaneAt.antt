@@ -13,6 +13,7 @@ pub plane_on_is : (n : ℕ) (lam : List ℤ) (comp : List ℕ) (sum result : ℤ
 unfolding plane_at
 plane_on_is n lam comp sum result e f = rw (f, e) refl
 
-pub plane_at_feed : (c : Case) (lam : List ℤ) (sum result : ℤ) → sum ≡ plane_times c.n lam c.z → result ≡ floor_over sum c.total → result ≡ plane_at c.n lam c.z c.total
+-- at the feed
+pub at_feed : (c : Case) (lam : List ℤ) (sum result : ℤ) → sum ≡ plane_times c.n lam c.z → result ≡ floor_over sum c.total → result ≡ plane_at c.n lam c.z c.total
 unfolding plane_at
-plane_at_feed c lam sum result e f = rw (f, e) refl
+at_feed c lam sum result e f = rw (f, e) refl

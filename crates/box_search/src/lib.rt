@@ -25,6 +25,6 @@ mod tests;
 mod trials;
 
 pub use domain::whole_low;
-pub use planes::{plane_at_feed, plane_on, plane_sum};
+pub use planes::{plane_at_feed, plane_on};
 pub use points::column_at;
 pub use searching::search;

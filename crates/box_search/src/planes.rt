@@ -18,6 +18,15 @@ pub fn refutes(n: u8, plane: &Plane, delta: i128, column: &Column) -> bool
     (column.up as i128) + delta < plane_on(n, plane, &column.comp)
 }
 
+/// The plane of `n` components at a composition in 2^-20, rounded down to 2^-40 bit.
+pub fn plane_on(n: u8, plane: &Plane, comp: &[u32; SLOTS]) -> i128
+    requires { n ≤ 4 }
+    ensures value { result ≡ plane_at n plane.now.lam comp.now (2 ^ 20) }
+    ensures small { unsigned_abs result ≤ 2 ^ 114 }
+{
+    rounded_down(plane_sum(n, plane, comp))
+}
+
 /// The plane at the feed, rounded down to 2^-40 bit.
 pub fn plane_at_feed(case: &Case, plane: &Plane) -> i128
     ensures value { result ≡ plane_at case.now.n plane.now.lam case.now.z case.now.total }
@@ -34,15 +43,6 @@ fn for_a_mole(sum: i128, total: u32) -> i128
     ensures small { unsigned_abs result ≤ 2 ^ 114 }
 {
     sum.div_euclid(total as i128)
-}
-
-/// The plane of `n` components at a composition in 2^-20, rounded down to 2^-40 bit.
-pub fn plane_on(n: u8, plane: &Plane, comp: &[u32; SLOTS]) -> i128
-    requires { n ≤ 4 }
-    ensures value { result ≡ plane_at n plane.now.lam comp.now (2 ^ 20) }
-    ensures small { unsigned_abs result ≤ 2 ^ 114 }
-{
-    rounded_down(plane_sum(n, plane, comp))
 }
 
 /// The plane of `n` components at a composition, times the number of its parts, in 2^-40 bit.

@@ -13,4 +13,8 @@ mod Trees
 mod Exact
 pub mod States
 pub mod Totals
+pub mod SameNumbers
+pub mod SameSplits
+pub mod SamePlanes
+pub mod SmallParts
 pub mod Exports

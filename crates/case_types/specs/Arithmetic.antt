@@ -5,3 +5,4 @@ pub mod Faults
 pub mod Bounds
 pub mod Splits
 pub mod Holding
+pub mod Same

@@ -78,6 +78,13 @@ impl<T> Reserved<T> {
         self.items.is_empty()
     }
 
+    /// The items in their order.
+    pub fn as_slice(&self) -> &[T]
+        ensures { result.now ≡ self.now.items }
+    {
+        self.items.as_slice()
+    }
+
     /// The item at a place, from 0.
     pub fn get(&self, at: usize) -> &T
         requires { at < length self.now.items }

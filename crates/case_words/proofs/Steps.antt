@@ -1,8 +1,7 @@
 -- One word more, test by test.
-use Rattle.std.proofs.Common.{◌≡◌, ℕ, ◌+◌, ◌<◌, ◌≤◌, List, [], ◌∷◌, length, get_or, drop, Bool, true, false, refl, ap, sym, ◌∙◌, arith}
-use Rattle.std.specs.Prelude.{Option, Some, None, Result, Ok, Err, nat_lt, codes}
+use Rattle.std.proofs.Common.{◌≡◌, ℕ, ◌+◌, ◌<◌, ◌≤◌, List, [], length, get_or, drop, Bool, true, false, refl, ap, sym, ◌∙◌}
+use Rattle.std.specs.Prelude.{Option, Some, None, Result, Ok, Err, nat_lt}
 use Rattle.std.specs.List.{position_or_len, before_first, after_first}
-use Rattle.std.specs.Str.{bytes_eq}
 use Rattle.std.proofs.lemmas.List.{drop_more, drop_all}
 use Rattle.case_types.specs.declared.cases.Edition.{Edition}
 use Rattle.case_words.specs.declared.keys.FlashKey.{FlashKey}
@@ -10,12 +9,12 @@ use Rattle.case_words.specs.declared.keys.FlashKey.TheVariants.{Needed, Kappa}
 use Rattle.case_words.specs.declared.keys.Key.{Key}
 use Rattle.case_words.specs.declared.keys.Key.TheVariants.{T, P, Z, Names, Tol, Budget}
 use Rattle.case_words.specs.declared.faults.WordFault.{WordFault}
-use Rattle.case_words.specs.declared.faults.WordFault.TheVariants.{NoCommand, Unknown, Twice, Count}
+use Rattle.case_words.specs.declared.faults.WordFault.TheVariants.{Unknown, Twice, Count}
 use Rattle.case_words.specs.Answers.{◌>>=◌, Answers}
 use Rattle.case_words.specs.Keys.{key_of}
 use Rattle.case_words.specs.Counts.{is_as_many, count_of}
 use Rattle.case_words.specs.Items.{number_of, edition_of, parts_of, names_of}
-use Rattle.case_words.specs.Jobs.{Gathered, Asked, PlainJob, PlainTp, nothing, stands, is_equals, with_needed, with_value, with_word, with_words, asked_of, job_of}
+use Rattle.case_words.specs.Jobs.{Gathered, nothing, stands, is_equals, with_needed, with_value, with_word, with_words, asked_of, flash_of}
 
 -- ---- the value of a key that must stand
 pub value-t : (place : ℕ) (g : Gathered) (value : List ℕ) (r : Result ℕ WordFault) → number_of place 3 50000 1500000 value ≡ r
@@ -114,35 +113,14 @@ pub words-end : (place : ℕ) (g : Gathered) (words : List (List ℕ)) (i : ℕ)
 unfolding with_words
 words-end place g words i end = rw (drop_all i words end) refl
 
--- ---- the job
-pub job-none : (words : List (List ℕ)) → length words ≡ 0 → job_of words ≡ Err NoCommand
-unfolding job_of
-job-none [] e = refl
-job-none (word ∷ words) e = absurd (omega arith)
+-- ---- what a flash asks
+pub flash-fault : (words : List (List ℕ)) (fault : WordFault) → with_words 2 nothing words ≡ Err fault → flash_of words ≡ Err fault
+unfolding flash_of
+flash-fault words fault e = rw e refl
 
-pub job-other : (words : List (List ℕ)) → 0 < length words → bytes_eq (get_or words 0 []) (codes "tp") ≡ false → job_of words ≡ Err NoCommand
-unfolding job_of
-job-other [] some e = absurd (omega arith)
-job-other (word ∷ words) some e = rw e refl
-
--- what comes of all words
-abbrev pub job_after : Result Gathered WordFault → Result PlainJob WordFault
-job_after r = r >>= (λ g. asked_of g >>= (λ asked. Ok (PlainTp asked)))
-
-pub after-fault : (r : Result Gathered WordFault) (fault : WordFault) → r ≡ Err fault → job_after r ≡ Err fault
-after-fault r fault e = rw e refl
-
-pub after-missing : (r : Result Gathered WordFault) (g : Gathered) (fault : WordFault) → r ≡ Ok g → asked_of g ≡ Err fault → job_after r ≡ Err fault
-after-missing r g fault e missing = rw (e, missing) refl
-
-pub after-whole : (r : Result Gathered WordFault) (g : Gathered) (asked : Asked) → r ≡ Ok g → asked_of g ≡ Ok asked → job_after r ≡ Ok (PlainTp asked)
-after-whole r g asked e whole = rw (e, whole) refl
-
-pub job-tp : (words : List (List ℕ)) → 0 < length words → bytes_eq (get_or words 0 []) (codes "tp") ≡ true
-    → job_of words ≡ job_after (with_words 2 nothing (drop 1 words))
-unfolding job_of
-job-tp [] some e = absurd (omega arith)
-job-tp (word ∷ words) some e = rw e refl
+pub flash-whole : (words : List (List ℕ)) (g : Gathered) → with_words 2 nothing words ≡ Ok g → flash_of words ≡ asked_of g
+unfolding flash_of
+flash-whole words g e = rw e refl
 
 -- ---- answers
 pub answers-fault : {A B F : Type 0} (view : A → B) (wanted : Result B F) (r : Result A F) (fault : F) → r ≡ Err fault → wanted ≡ Err fault

@@ -1,13 +1,15 @@
 -- What the words ask for, or their first fault.
-use Rattle.std.specs.Prelude.{ℕ, ◌+◌, List, [], ◌∷◌, length, Bool, ◌==◌, nat_lt, if◌then◌else◌, Option, Some, None, is_some, unwrap_or, Result, Ok, Err, codes}
+use Rattle.std.specs.Prelude.{ℕ, ◌+◌, List, [], ◌∷◌, length, Bool, ◌==◌, nat_lt, if◌then◌else◌, Option, Some, None, is_some, unwrap_or, Result, Ok, Err}
 use Rattle.std.specs.List.{position_or_len, before_first, after_first}
-use Rattle.std.specs.Str.{bytes_eq}
 use Rattle.case_words.specs.Answers.{◌>>=◌, when}
 use Rattle.case_words.specs.Keys.{key_of}
+use Rattle.case_words.specs.Commands.{command_of}
 use Rattle.case_words.specs.Counts.{is_as_many, count_of}
 use Rattle.case_words.specs.Items.{number_of, edition_of, parts_of, names_of}
 use Rattle.case_types.specs.declared.cases.Edition.{Edition}
 use Rattle.case_types.specs.declared.cases.Edition.TheVariants.{Y1976}
+use Rattle.case_words.specs.declared.commands.Command.{Command}
+use Rattle.case_words.specs.declared.commands.Command.TheVariants.{Tp, Cert, Check}
 use Rattle.case_words.specs.declared.keys.FlashKey.{FlashKey}
 use Rattle.case_words.specs.declared.keys.FlashKey.TheVariants.{Needed, Kappa}
 use Rattle.case_words.specs.declared.keys.Key.{Key}
@@ -120,14 +122,30 @@ asked_of g = do
 -- a job as its command and what it asks
 pub data PlainJob : Type 0 where
   PlainTp : Asked → PlainJob
+  PlainCert : Asked → PlainJob
+  PlainCheck : PlainJob
+
+-- what the further words of a flash ask, the first of them being word 2
+unfoldable pub flash_of : List (List ℕ) → Result Asked WordFault
+flash_of words = with_words 2 nothing words >>= asked_of
+
+-- `check` takes no further word
+abbrev pub check_of : List (List ℕ) → Result PlainJob WordFault
+check_of [] = Ok PlainCheck
+check_of (word ∷ words) = Err (Unknown 2)
+
+-- the job of a command with its further words
+unfoldable pub job_with : Option Command → List (List ℕ) → Result PlainJob WordFault
+job_with None words = Err NoCommand
+job_with (Some Tp) words = do
+  asked ← flash_of words
+  Ok (PlainTp asked)
+job_with (Some Cert) words = do
+  asked ← flash_of words
+  Ok (PlainCert asked)
+job_with (Some Check) words = check_of words
 
 -- the job of the words, or their first fault: places count from 1, the command being word 1
 unfoldable pub job_of : List (List ℕ) → Result PlainJob WordFault
 job_of [] = Err NoCommand
-job_of (command ∷ words) =
-    if bytes_eq command (codes "tp")
-    then (do
-      g ← with_words 2 nothing words
-      asked ← asked_of g
-      Ok (PlainTp asked))
-    else Err NoCommand
+job_of (command ∷ words) = job_with (command_of command) words

@@ -1,5 +1,6 @@
 pub mod Answers
 pub mod Keys
+pub mod Commands
 pub mod Names
 pub mod Items
 pub mod Counts

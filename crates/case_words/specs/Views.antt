@@ -4,9 +4,9 @@ use Rattle.std.specs.Option.{option_map}
 use Rattle.case_words.specs.declared.gathering.Given.{Given}
 use Rattle.case_words.specs.declared.jobs.FlashWords.{FlashWords}
 use Rattle.case_words.specs.declared.jobs.Job.{Job}
-use Rattle.case_words.specs.declared.jobs.Job.TheVariants.{Tp}
+use Rattle.case_words.specs.declared.jobs.Job.TheVariants.{Tp, Cert, Check}
 use Rattle.case_words.specs.Names.{text_of}
-use Rattle.case_words.specs.Jobs.{Gathered, Asked, PlainJob, PlainTp}
+use Rattle.case_words.specs.Jobs.{Gathered, Asked, PlainJob, PlainTp, PlainCert, PlainCheck}
 
 abbrev pub gathered_of : Given → Gathered
 gathered_of g = record {
@@ -32,3 +32,5 @@ asked_by words = record {
 
 abbrev pub plain_job : Job → PlainJob
 plain_job (Tp words) = PlainTp (asked_by words)
+plain_job (Cert words) = PlainCert (asked_by words)
+plain_job Check = PlainCheck

@@ -10,8 +10,12 @@ use case_types::{Edition, Name, SLOTS};
 /// The job of a command.
 #[derive(Drop)]
 pub enum Job {
-    /// A flash at a temperature and a pressure.
+    /// The report of a flash at a temperature and a pressure.
     Tp(FlashWords),
+    /// The certificate of the answer of such a flash.
+    Cert(FlashWords),
+    /// The verdict on a certificate.
+    Check,
 }
 
 /// What a flash is asked of.

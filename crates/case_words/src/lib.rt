@@ -1,10 +1,11 @@
 //! The words of the command line: the job that they ask for, or the first fault with its place.
 //!
 //! The first word is the command, every other is `key=value`. [`read_words`] answers exactly the job of its words, or exactly
-//! their first fault. It takes no memory. The only command is `tp`; it wants each of its keys once, in any order,
-//! but for the edition of the equation, which may be left out.
+//! their first fault. It takes no memory. The commands are `tp`, `cert` and `check`. The first two have the same keys and want each of
+//! them once, in any order, but for the edition of the equation, which may be left out; `check` has none.
 #![tactic(auto)]
 
+mod commands;
 mod faults;
 mod gathering;
 mod items;

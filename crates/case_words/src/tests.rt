@@ -21,12 +21,30 @@ fn fault_of(alloc: Global, line: &str) -> Result<Option<WordFault>, AllocError> 
 }
 
 /// A line of words, and its first fault.
-const REFUSED: [(&str, WordFault); 54] = [
+const REFUSED: [(&str, WordFault); 69] = [
     ("", WordFault::NoCommand),
     ("pt", WordFault::NoCommand),
     ("TP T=300", WordFault::NoCommand),
-    ("cert T=300", WordFault::NoCommand),
     ("gen n=7", WordFault::NoCommand),
+    ("Cert T=300", WordFault::NoCommand),
+    ("checks", WordFault::NoCommand),
+    ("chec", WordFault::NoCommand),
+    ("cert", WordFault::Missing(Key::T)),
+    ("cert T=300", WordFault::Missing(Key::P)),
+    ("cert T=300 T=300", WordFault::Twice(3)),
+    ("cert T=49.999", WordFault::Range(2)),
+    ("cert T=5x", WordFault::Value(2, DecFault::Digit)),
+    ("cert X=1", WordFault::Unknown(2)),
+    ("cert z=1,1 names=a", WordFault::Count(3)),
+    ("cert kappa=77", WordFault::Range(2)),
+    (
+        "cert T=300 P=1000000 z=1 names=a tol=1024",
+        WordFault::Missing(Key::Budget),
+    ),
+    ("check x=1", WordFault::Unknown(2)),
+    ("check T=300", WordFault::Unknown(2)),
+    ("check kappa=76 x", WordFault::Unknown(2)),
+    ("check check", WordFault::Unknown(2)),
     ("tp", WordFault::Missing(Key::T)),
     ("tp T=300 T=300", WordFault::Twice(3)),
     ("tp T=49.999", WordFault::Range(2)),
@@ -152,6 +170,26 @@ fn reads_the_edition(rt: HostRuntime) -> Result<(), Fail> {
         };
         assert_eq!(rt; asked.edition, want, "{line}");
     }
+    Ok(())
+}
+
+#[test]
+fn reads_the_commands(rt: HostRuntime) -> Result<(), Fail> {
+    let words = words_of(
+        rt.alloc(),
+        "cert T=300.5 kappa=78 P=1000000 z=1,0 names=a,b tol=1024 budget=200000",
+    )?;
+    let Ok(Job::Cert(asked)) = read_words(&words) else {
+        return Err("no certificate".into());
+    };
+    assert_eq!(rt; asked.t, 300_500);
+    assert_eq!(rt; asked.z.as_slice(), [1, 0].as_slice());
+    assert_eq!(rt; asked.names.len(), 2);
+    assert_eq!(rt; asked.edition, Edition::Y1978);
+    let words = words_of(rt.alloc(), "check")?;
+    let Ok(Job::Check) = read_words(&words) else {
+        return Err("no check".into());
+    };
     Ok(())
 }
 

@@ -1,3 +1,9 @@
+pub mod SameLows
+pub mod Saying
+pub mod SameHeads
+pub mod SameTests
+pub mod Converse
+pub mod OfAnswers
 pub mod LetterSteps
 pub mod LineSteps
 pub mod HeadSteps

@@ -1,5 +1,6 @@
 pub mod Tests
 pub mod Judging
 pub mod Certificates
+pub mod Converse
 pub mod Streams
 pub mod Checking

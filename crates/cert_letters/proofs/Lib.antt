@@ -3,6 +3,8 @@ pub mod Steps
 pub mod Finishing
 pub mod Lines
 pub mod Bounds
+pub mod Searched
+pub mod Lengths
 pub mod OneTree
 pub mod Counting
 pub mod Exports

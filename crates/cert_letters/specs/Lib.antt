@@ -3,3 +3,4 @@ pub mod Readings
 pub mod Depth
 pub mod Lines
 pub mod Bounds
+pub mod Searched

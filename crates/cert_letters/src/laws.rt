@@ -3,6 +3,7 @@
 ghost use Rattle.cert_letters.specs.Bounds.{LinesBound};
 ghost use Rattle.cert_letters.specs.Lines.{LettersWriteOne, LinesAreTrees, TreesAreLines};
 ghost use Rattle.cert_letters.specs.Readings.{LettersCount};
+ghost use Rattle.cert_letters.specs.Searched.{SearchesWriteTrees};
 
 /// A line of letters that is read whole writes a tree of as many letters as stated, whose halvings can be and whose leaves pass.
 pub fn lines_are_trees()
@@ -28,4 +29,10 @@ pub fn letters_count()
 /// domain, on any surface.
 pub fn lines_bound()
     ensures { LinesBound }
+{}
+
+/// The letters of a search that ends with a low are those of a tree of the whole domain whose halvings can be and whose leaves have
+/// lows of at least that one, on any surface.
+pub fn searches_write_trees()
+    ensures { SearchesWriteTrees }
 {}

@@ -14,6 +14,9 @@ mod stack;
 #[cfg(test)]
 mod tests;
 
-pub use laws::{letters_count, letters_write_one, lines_are_trees, lines_bound, trees_are_lines};
+pub use laws::{
+    letters_count, letters_write_one, lines_are_trees, lines_bound, searches_write_trees,
+    trees_are_lines,
+};
 pub use letters::LeafHow;
 pub use reader::{TreeReader, TreeStep};

@@ -10,4 +10,8 @@ pub mod FirstLine
 pub mod NumbersOf
 pub mod WholeHead
 pub mod Listed
+pub mod Within
+pub mod Entries
+pub mod LinePlaces
+pub mod Suiting
 pub mod Exports

@@ -103,10 +103,10 @@ number_no_space (negsuc m) small =
     let wide : 2 ^ 126 ≤ 10 ^ 64 = omega arith in
     (refl, digits_no_space (decimal (suc m)) (decimal_is_IsNumeral_wide (suc m) (omega (arith, small, wide))).0.1)
 
-int_le_out : (a b : ℤ) → int_le a b ≡ true → a ≤ℤ b
+pub int_le_out : (a b : ℤ) → int_le a b ≡ true → a ≤ℤ b
 int_le_out a b e = grind arith
 
-int_le_in : (a b : ℤ) → a ≤ℤ b → int_le a b ≡ true
+pub int_le_in : (a b : ℤ) → a ≤ℤ b → int_le a b ≡ true
 int_le_in a b h = grind arith
 
 in_parts : (r : Range) (z : ℤ) → is_in r z ≡ true → (r.low ≤ℤ z) × (z ≤ℤ r.high)

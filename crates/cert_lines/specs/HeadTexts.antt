@@ -1,12 +1,11 @@
 -- The texts of heads: what they say, and the head that a text begins with.
-use Rattle.std.specs.Prelude.{ℕ, ◌==◌, List, [], ◌∷◌, ◌++◌, length, drop, true, if◌then◌else◌, Option, Some, None, ◌≡◌, ◌≤◌, ◌⊎◌, Result, Ok, Err}
+use Rattle.std.specs.Prelude.{ℕ, ◌==◌, List, [], ◌∷◌, ◌++◌, true, if◌then◌else◌, Option, Some, None, ◌≡◌}
 use Rattle.std.specs.List.{position_or_len}
 use Rattle.cert_lines.specs.Lines.{Said, ◌>>=◌, line_text, Fits}
 use Rattle.cert_lines.specs.Forms.{word_of, is_named, ranges_of}
 use Rattle.cert_lines.specs.declared.places.Place.{Place}
 use Rattle.cert_lines.specs.declared.faults.CertFault.{CertFault}
-use Rattle.cert_lines.specs.declared.faults.CertFault.TheVariants as fault
-use Rattle.cert_lines.specs.Heads.{Draft, blank, put, suits, next_place, with_line, fault_of}
+use Rattle.cert_lines.specs.Heads.{Draft, put, suits, next_place, with_line, fault_of}
 
 -- ---- texts
 -- each line with its newline
@@ -60,8 +59,3 @@ head_end d line (b ∷ bytes) =
 -- how long the line at the front is
 abbrev pub line_length : List ℕ → ℕ
 line_length text = position_or_len (λ b. b == 10) text
-
--- what was read: a head and the place behind it, or why there is none
-abbrev pub ReadsLines : List ℕ → Result (Draft × ℕ) CertFault → Type 0
-ReadsLines text (Ok x) = (head_end blank [] text ≡ Whole x.0 (drop x.1 text)) × (x.1 ≤ length text)
-ReadsLines text (Err f) = (head_end blank [] text ≡ Wrong f) ⊎ ((head_end blank [] text ≡ CutOff) × (f ≡ fault.Cut))

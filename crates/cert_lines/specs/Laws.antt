@@ -1,11 +1,15 @@
 -- What holds of all heads.
-use Rattle.std.specs.Prelude.{ℕ, ◌==◌, List, [], ◌++◌, length, Bool, true, not, Some, None, pos, slice_index_or, ◌≡◌, ◌≤◌, ◌<◌}
+use Rattle.std.specs.Prelude.{ℕ, ◌==◌, List, [], ◌++◌, take, length, Bool, true, not, Some, None, pos, slice_index_or, ◌≡◌, ◌≤◌, ◌<◌}
 use Rattle.std.specs.List.{list_all}
 use Rattle.cert_lines.specs.Lines.{Said, Fits, IsIn}
 use Rattle.cert_lines.specs.Places.{place_at}
 use Rattle.cert_lines.specs.Forms.{is_named, ranges_of}
 use Rattle.cert_lines.specs.declared.places.Place.{Place}
-use Rattle.cert_lines.specs.Heads.{Draft, blank, next_place, with_line, number_in}
+use Rattle.cert_lines.specs.declared.places.Place.TheVariants.{Version, Count, Component, Split, Letters}
+use Rattle.cert_lines.specs.declared.places.Shape.{Shape}
+use Rattle.log_laws.specs.Sums.{sum_below}
+use Rattle.cert_lines.specs.Indices.{number_on}
+use Rattle.cert_lines.specs.Heads.{Draft, blank, next_place, with_line, number_in, up_to, suits}
 use Rattle.cert_lines.specs.HeadTexts.{with_lines, lines_text, Says, head_end, Whole}
 
 -- what is read is what is written: lines can stand exactly where they are the texts of what they say
@@ -35,6 +39,35 @@ NumbersFit =
     k < length (ranges_of d.shape.n place) →
     IsIn (slice_index_or (ranges_of d.shape.n place) k (record { low = pos 0; high = pos 0 }))
     (number_in (slice_index_or d.said i (record { name = []; numbers = [] })) k)
+
+-- what the shape has of a line that says it
+pub record IsStated (s : Shape) (place : Place) (x : Said) : Type 0 where
+  pub version : place ≡ Version → s.version ≡ up_to 4 (number_in x 0)
+  pub count : place ≡ Count → s.n ≡ up_to 4 (number_in x 0)
+  pub phases : place ≡ Split → s.phases ≡ up_to 4 (number_in x 0)
+  pub letters : place ≡ Letters → s.letters ≡ up_to 60000000 (number_in x 0)
+
+-- the line at an index suited the lines before it, and what it says of the shape stayed
+pub record SuitedAt (d : Draft) (place : Place) (i : ℕ) : Type 0 where
+  pub before : Draft
+  pub said : before.said ≡ take i d.said
+  pub suits : suits before place (slice_index_or d.said i (record { name = []; numbers = [] })) ≡ true
+  pub stated : IsStated d.shape place (slice_index_or d.said i (record { name = []; numbers = [] }))
+
+-- each line suited the lines before it
+abbrev pub LinesSuit : Type 0
+LinesSuit = (d : Draft) (lines : List (List ℕ)) (place : Place) (i : ℕ) → with_lines blank lines ≡ Some d → i < length d.said → place_at d.shape i ≡ Some place → SuitedAt d place i
+
+-- the parts of the feed of all components are at most 2 ^ 20
+abbrev pub FeedFits : Type 0
+FeedFits =
+    (d : Draft) (lines : List (List ℕ)) → with_lines blank lines ≡ Some d → next_place d ≡ None →
+    sum_below d.shape.n (λ i. up_to 1048576 (number_on d (Component i) 3)) ≤ 1048576
+
+-- the line of each place of a whole head was read
+abbrev pub WholeHeadsHaveAll : Type 0
+WholeHeadsHaveAll =
+    (d : Draft) (lines : List (List ℕ)) (place : Place) (i : ℕ) → with_lines blank lines ≡ Some d → next_place d ≡ None → place_at d.shape i ≡ Some place → i < length d.said
 
 -- a head is read at the front of a text exactly where its lines stand there
 abbrev pub HeadsAreRead : Type 0

@@ -4,3 +4,4 @@ pub mod Forms
 pub mod Heads
 pub mod HeadTexts
 pub mod Laws
+pub mod Indices

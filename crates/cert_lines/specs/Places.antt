@@ -1,5 +1,5 @@
 -- The lines of a head in their order. Components and phases count from 0.
-use Rattle.std.specs.Prelude.{ℕ, ◌+◌, ◌-◌, ◌*◌, ◌==◌, ◌≡◌, ◌≤◌, nat_lt, List, [], ◌∷◌, ◌++◌, map, Option, Some, None, if◌then◌else◌}
+use Rattle.std.specs.Prelude.{ℕ, ◌+◌, ◌-◌, ◌*◌, ◌==◌, ◌≡◌, ◌≤◌, ◌<◌, nat_lt, List, [], ◌∷◌, ◌++◌, map, Option, Some, None, if◌then◌else◌}
 use Rattle.std.specs.List.{flat_map, range_with_len, slice_get}
 use Rattle.cert_lines.specs.declared.places.Place.{Place}
 use Rattle.cert_lines.specs.declared.places.Place.TheVariants.{Version, Temperature, Pressure, Count, Edition, Component, Interaction, RootTwo, LogE, TemperatureRoot, PressureRoot, Split, Phase, Upper, Plane, Low, Gap, Letters}
@@ -99,3 +99,13 @@ place_at s at =
 -- it is the one that the list has there
 abbrev pub PlacesStand : Type 0
 PlacesStand = (s : Shape) → s.n ≤ 4 → (at : ℕ) → place_at s at ≡ slice_get (places s) at
+
+-- ---- what a line is of
+-- the components and the phase of a line are those of the shape, and a pair is in order
+abbrev pub IsPlaceOf : Shape → Place → Type 0
+IsPlaceOf s (Component i) = i < s.n
+IsPlaceOf s (Interaction i j) = (i < j) × (j < s.n)
+IsPlaceOf s (TemperatureRoot i) = i < s.n
+IsPlaceOf s (PressureRoot i j) = (i < j) × (j < s.n)
+IsPlaceOf s (Phase k) = k < s.phases
+IsPlaceOf s other = Unit {0}

@@ -8,19 +8,18 @@
 
 mod faults;
 mod forms;
+mod indices;
 mod laws;
 mod line_reader;
 mod lines;
 mod places;
-mod reading;
-#[cfg(test)]
-mod tests;
 
 pub use faults::CertFault;
+pub use forms::{is_named, word_of};
 pub use laws::{
-    heads_are_read, heads_are_texts, lines_are_short, lines_fit, numbers_fit, places_stand,
+    feed_fits, heads_are_read, heads_are_texts, lines_are_found, lines_are_short, lines_fit,
+    lines_suit, numbers_fit, places_are_found, places_stand, whole_heads_have_all,
 };
 pub use line_reader::{LineReader, LineStep};
 pub use lines::{Entry, Range};
-pub use places::{Place, Shape};
-pub use reading::read_lines;
+pub use places::{Place, Shape, place_at};

@@ -2,15 +2,17 @@
 
 ghost use Rattle.std.specs.Prelude.{◌≡◌, ◌≤◌, ◌<◌, ◌+◌, ◌==◌, ◌&&◌, [], length, map, Option, Some, None, IsSome, IfSome, IsTrue, IsFalse, ◌↔◌, pos, ℤ, ◌≤ℤ◌, int_le, int_lt};
 ghost use Rattle.std.specs.Option.{option_map};
-ghost use Rattle.std.specs.List.{list_any};
+ghost use Rattle.std.specs.List.{list_any, slice_get};
 ghost use Rattle.std.specs.Str.{bytes_eq};
 ghost use Rattle.case_words.specs.Names.{text_of};
 ghost use Rattle.cert_lines.specs.Lines.{Said, said_by};
+ghost use Rattle.cert_lines.specs.Indices.{index_of, said_on, number_on};
 ghost use Rattle.cert_lines.specs.Heads.{blank, number_in, up_to, reshaped, part_in, suits, next_place, said_at, suiting, with_line, Steps, has_part, is_new, count_of, letters_of};
 
 use crate::faults::CertFault;
 use crate::forms::{is_named, ranges_of, word_of};
-use crate::lines::{Entry, read_line};
+use crate::indices::index_of;
+use crate::lines::{Entry, no_name, read_line};
 use crate::places::{Place, Shape, place_at};
 use arrayvec::ArrayVec;
 use case_types::Name;
@@ -90,6 +92,42 @@ impl LineReader {
         ensures { map said_by result.now ≡ self.now.said }
     {
         self.entries.as_slice()
+    }
+
+    /// A number of a line, from 0, or 0 where there is none.
+    pub fn number(&self, place: Place, at: usize) -> i128
+        ensures { result ≡ number_on self.now place at }
+    {
+        match self.entry(place) {
+            Some(entry) => number_in(entry, at),
+            None => 0,
+        }
+    }
+
+    /// The name on a line, without a byte where there is none.
+    pub fn name(&self, place: Place) -> Name
+        ensures { text_of result ≡ (said_on self.now place).name }
+    {
+        match self.entry(place) {
+            Some(entry) => entry.name,
+            None => no_name(),
+        }
+    }
+
+    /// What a line said.
+    fn entry(&self, place: Place) -> Option<&Entry>
+        ensures { option_map (λ e. said_by e.now) result ≡ slice_get self.now.said (index_of self.now.shape place) }
+    {
+        self.entries.get(index_of(self.shape, place) as usize)
+    }
+
+    /// The numbers of lines of each kind.
+    pub fn shape(&self) -> Shape
+        ensures value { result ≡ self.now.shape }
+        ensures n { result.n ≤ 4 }
+        ensures phases { result.phases ≤ 4 }
+    {
+        self.shape
     }
 
     /// The number of components, or 1 before its line was read.

@@ -82,7 +82,7 @@ fn take_name(named: bool, text: &[u8]) -> Option<(Name, &[u8])>
 }
 
 /// A name without a byte.
-fn no_name() -> Name
+pub fn no_name() -> Name
     ensures { text_of result ≡ [] }
 {
     Name {

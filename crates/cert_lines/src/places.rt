@@ -207,7 +207,7 @@ fn from_ends(at: u32) -> Option<Place>
 }
 
 /// How many pairs `n` components have.
-fn pairs_of(n: u8) -> u32
+pub fn pairs_of(n: u8) -> u32
     requires { n ≤ 4 }
     ensures value { result ≡ pairs_of n }
     ensures few { result ≤ 6 }

@@ -239,7 +239,7 @@ fn asked_by(alloc: Global, line: &str) -> Result<FlashWords, Fail> {
     }
     match read_words(&words) {
         Ok(Job::Tp(asked)) => Ok(asked),
-        Err(_) => Err("refused words".into()),
+        _ => Err("refused words".into()),
     }
 }
 

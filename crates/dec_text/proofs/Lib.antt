@@ -4,4 +4,5 @@ pub mod FirstFault
 pub mod Signs
 pub mod Zeros
 pub mod WholeText
+pub mod Regroup
 pub mod Exports

@@ -117,10 +117,10 @@ all_below-less n m p h t = all_below-from n p (λ i l. all_below-at m p i (omega
 pub all_below-more : (n : ℕ) (p : ℕ → Bool) → all_below n p ≡ true → p n ≡ true → all_below (n + 1) p ≡ true
 all_below-more n p h k = rw (add-one n, h) k
 
--- two tests that are the same everywhere are the same of all
-pub all_below-same : (n : ℕ) (p q : ℕ → Bool) → ((i : ℕ) → p i ≡ q i) → all_below n p ≡ all_below n q
+-- two tests that are the same below n are the same of all
+pub all_below-same : (n : ℕ) (p q : ℕ → Bool) → ((i : ℕ) → i < n → p i ≡ q i) → all_below n p ≡ all_below n q
 all_below-same zero p q h = refl
-all_below-same (suc n) p q h = rw (all_below-same n p q h, h n) refl
+all_below-same (suc n) p q h = rw (all_below-same n p q (λ i l. h i (omega (arith, l))), h n (omega arith)) refl
 
 -- two tests of which the second fails don't hold together
 pub and_false : (b : Bool) → (b && false) ≡ false
@@ -150,3 +150,13 @@ pub each_of_four_small : (xs : List ℤ) (limit i : ℕ) → IsTrue (all_below 4
     unsigned_abs (slice_index_or xs i (pos 0)) ≤ limit
 each_of_four_small xs limit i h l =
     leb-true (unsigned_abs (slice_index_or xs i (pos 0))) limit (all_below-at 4 (λ i. nat_le (unsigned_abs (slice_index_or xs i (pos 0))) limit) i l h)
+
+-- ---- functions that are the same below n
+pub sum_below-same : (n : ℕ) (f g : ℕ → ℕ) → ((i : ℕ) → i < n → f i ≡ g i) → sum_below n f ≡ sum_below n g
+sum_below-same zero f g h = refl
+sum_below-same (suc n) f g h = rw (sum_below-same n f g (λ i l. h i (omega (arith, l))), h n (omega arith)) refl
+
+pub greatest_below-same : (n : ℕ) (f g : ℕ → ℤ) (first : ℤ) → ((i : ℕ) → i < n → f i ≡ g i) → greatest_below n f first ≡ greatest_below n g first
+unfolding greatest_below
+greatest_below-same zero f g first h = refl
+greatest_below-same (suc n) f g first h = rw (greatest_below-same n f g first (λ i l. h i (omega (arith, l))), h n (omega arith)) refl

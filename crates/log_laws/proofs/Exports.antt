@@ -18,9 +18,10 @@ pub use Rattle.log_laws.proofs.Adding.{sum_below-more, sum_below-fewer, sum-none
 pub use Rattle.log_laws.proofs.IntSums.{sum-same, sum-neg, sum-added, sum-scaled, sum-times, sum-nothing, sum-swapped, sum-whole, sum-order, sum-order_scaled, sum_up, summand, times_nothing}
 pub use Rattle.log_laws.proofs.Adding.{least-none, least-more, greatest-none, greatest-more, greatest-next, greatest-first, least-le, le-greatest}
 pub use Rattle.log_laws.proofs.Adding.{and_true, and_false, all_below-at, all_below-from, all_below-less, all_below-more, all_below-same, all_below-fails, four_small, each_of_four_small}
+pub use Rattle.log_laws.proofs.Adding.{sum_below-same, greatest_below-same}
 -- ---- linear forms of fractions that add up to 1
 pub use Rattle.log_laws.proofs.Linear.{greater_end-high, affine_high-same, affine_low-same, ArePartsBetween, affine_above, affine_below}
-pub use Rattle.log_laws.proofs.Listed.{get_or-list_below}
+pub use Rattle.log_laws.proofs.Listed.{get_or-list_below, length-list_below, list_below-same}
 -- ---- the value of a fraction as a difference of whole numbers over a third
 pub use Rattle.log_laws.proofs.Parts.{IsParts, product_pos, parts_self, parts_ratio, parts_positive, parts_inverse, parts_one, parts_negated, parts_sum, parts_sum_at, parts_product, parts_respelled, parts_of_same}
 pub use Rattle.log_laws.proofs.Parts.{same_of_parts, at_most_of_parts, parts_of_at_most}

@@ -76,3 +76,17 @@ den_positive_at c i h =
     let k = component_at c i h in
     let p = mul-le-mul k.pc_low c.t_low in
     omega (arith, p)
+
+-- and 0 of a component with itself
+pub interaction_own : (c : Case) (i : ℕ) → i < c.n → interaction c i i ≡ pos 0
+interaction_own c i h =
+    let few = c.few in
+    let l : i < 4 = omega (arith, h, few) in
+    let own : ℕ → Bool = λ i. int_le (entry c.k i i) (pos 0) && int_le (pos 0) (entry c.k i i) in
+    let place : ℕ → ℕ → Bool = λ i j. is_interaction (entry c.k i j) && int_le (entry c.k i j) (entry c.k j i) in
+    let at = all_below-at 4 own i l (and_true (all_below 4 (λ i. all_below 4 (λ j. place i j))) (all_below 4 own) c.interactions).1 in
+    let both = and_true (int_le (entry c.k i i) (pos 0)) (int_le (pos 0) (entry c.k i i)) at in
+    is_zero (interaction c i i) (int_at_most (entry c.k i i) (pos 0) both.0) (int_at_most (pos 0) (entry c.k i i) both.1)
+  where
+    is_zero : (a : ℤ) → a ≤ℤ pos 0 → pos 0 ≤ℤ a → a ≡ pos 0
+    is_zero a l m = omega (arith, ints, l, m)

@@ -3,6 +3,8 @@ pub use Rattle.pr_params.proofs.Accepted.{e_lo_is, e_hi_is, e_exact, two_exact, 
 pub use Rattle.pr_params.proofs.Argument.{positive_between, packing_positive, state_packing, rest_parts}
 pub use Rattle.pr_params.proofs.AtComponents.{log_e_of_numbers}
 pub use Rattle.pr_params.proofs.AttractionTerm.{state_attraction_least, state_attraction_most}
+pub use Rattle.pr_params.proofs.Component.{IsComponent, at_most, int_at_most}
+pub use Rattle.pr_params.proofs.Components.{component_at, interaction_at_least, interaction_at_most}
 pub use Rattle.pr_params.proofs.EitherWay.{attraction_turned}
 pub use Rattle.pr_params.proofs.EnergyTerms.{energy_by_terms}
 pub use Rattle.pr_params.proofs.Lambda.{respelled}
@@ -12,3 +14,4 @@ pub use Rattle.pr_params.proofs.ParametersHold.{holds_parameters}
 pub use Rattle.pr_params.proofs.Pull.{times_scaled, times_minus_one}
 pub use Rattle.pr_params.proofs.Right.{enclosures_right}
 pub use Rattle.pr_params.proofs.Sized.{e_ends, scale_split, IsSized, ends_ordered, between_apart, covolume_positive, count_of, each_up_to, mean_attraction_is_fraction}
+pub use Rattle.pr_params.proofs.Components.{interaction_turned, interaction_own}

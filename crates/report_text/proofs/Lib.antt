@@ -1,4 +1,3 @@
 pub mod Components
 pub mod Parts
 pub mod Phases
-pub mod Regroup

@@ -87,7 +87,9 @@ fn picked_of(alloc: Global, words: &[&str], table: &str) -> Result<(Picked, u32)
     for word in words {
         list.push(Word::new(word.as_bytes().to_vec(alloc)?))?;
     }
-    let Job::Tp(job) = read_words(&list).ok().ok_or("words")?;
+    let Ok(Job::Tp(job)) = read_words(&list) else {
+        return Err("words".into());
+    };
     let table = read_table(alloc, table.as_bytes()).ok().ok_or("table")?;
     let picked = pick(&table, &job).ok().ok_or("names")?;
     Ok((picked, job.tol))

@@ -11,9 +11,7 @@ use crate::enclosures::put_enclosures;
 use crate::ends::End;
 use crate::joules::millijoules;
 use crate::refusals::{put_case_fault, put_table_fault, put_word_fault};
-use crate::texts::{
-    head_of, label_of, put_fixed, put_fixed_line, put_line, put_millionths,
-};
+use crate::texts::{head_of, label_of, put_fixed, put_fixed_line, put_line, put_millionths};
 use case_types::{Answer, Case, Phase, Plane, SLOTS, Split};
 use case_words::put_name;
 use component_table::Picked;

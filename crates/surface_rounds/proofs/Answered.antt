@@ -2,7 +2,6 @@
 use Rattle.std.proofs.Common.{◌≡◌, ℕ, ◌^◌, ◌≤◌, List, Some, ℤ, ◌-ℤ◌, to_z, of_z, FitsSigned, unsigned_abs, refl, ◌∙◌, subst, inl, inr, arith}
 use Rattle.std.specs.Int.{w128}
 use Rattle.std.proofs.lemmas.Int.{ints, fits_signed_from_abs}
-use Rattle.log_laws.specs.Whole.{floor_over}
 use Rattle.log_laws.proofs.Exports.{back}
 use Rattle.std.specs.Prelude.{IsSome}
 use Rattle.case_types.specs.declared.answers.Answer.{Answer}
@@ -12,7 +11,6 @@ use Rattle.case_types.specs.declared.cases.Case.{Case}
 use Rattle.case_types.specs.declared.phases.Split.{Split}
 use Rattle.case_types.specs.declared.rounds.Column.{Column}
 use Rattle.case_types.specs.declared.units.Units.{Units}
-use Rattle.case_types.specs.Arithmetic.Bounds.{plane_at, plane_times}
 use Rattle.energy_surface.specs.declared.found.Found.{Found}
 use Rattle.energy_surface.specs.declared.found.Found.TheVariants.{AllClear, Refuted, Spent, Grain}
 use Rattle.energy_surface.specs.Lawful.{IsLawful}

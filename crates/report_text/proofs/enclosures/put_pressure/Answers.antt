@@ -3,7 +3,7 @@ use Rattle.case_types.specs.Energy.Instances.{pair_place}
 use Rattle.log_laws.specs.Between.{Ends}
 use Rattle.report_text.specs.Pieces.{ends_line}
 use Rattle.report_text.proofs.Components.{name_at, ends_at-all}
-use Rattle.report_text.proofs.Regroup.{adds-then, adds-as}
+use Rattle.dec_text.proofs.Exports.{adds-then, adds-as}
 use Rattle.report_text.proofs.enclosures.put_pressure.Goals as goal
 
 pub returns : goal.returns

@@ -2,7 +2,7 @@ use Rattle.std.proofs.Common.{ℕ, ◌+◌, ◌<◌, arith}
 use Rattle.case_types.specs.Energy.Printed.{enclosures_in}
 use Rattle.report_text.specs.ReportText.{pressure_text}
 use Rattle.report_text.proofs.Components.{later_texts-none, later_texts-more}
-use Rattle.report_text.proofs.Regroup.{adds-then, adds-as, adds-nothing}
+use Rattle.dec_text.proofs.Exports.{adds-then, adds-as, adds-nothing}
 use Rattle.report_text.proofs.enclosures.put_pressures_of.Goals as goal
 
 pub loop-j-init : goal.loop-j-init

@@ -2,7 +2,7 @@ use Rattle.std.proofs.Common.{codes, ap, ◌<◌, ◌≤◌, rules, length}
 use Rattle.log_laws.specs.Between.{Ends}
 use Rattle.report_text.specs.Pieces.{ends_line}
 use Rattle.report_text.proofs.Components.{name_at, ends_at-first}
-use Rattle.report_text.proofs.Regroup.{adds-then, adds-as}
+use Rattle.dec_text.proofs.Exports.{adds-then, adds-as}
 use Rattle.report_text.proofs.enclosures.put_temperature.Goals as goal
 
 pub returns : goal.returns

@@ -1,6 +1,6 @@
 use Rattle.std.proofs.Common.{◌≡◌, pos, to_z, rules}
 use Rattle.std.specs.Int.{w128}
-use Rattle.report_text.proofs.Regroup.{adds-then}
+use Rattle.dec_text.proofs.Exports.{adds-then}
 use Rattle.report_text.proofs.reports.put_conditions.Goals as goal
 
 pub returns : goal.returns

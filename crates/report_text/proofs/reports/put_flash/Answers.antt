@@ -6,7 +6,7 @@ use Rattle.pr_params.specs.declared.numbers.Params.{Params}
 use Rattle.pr_params.proofs.Exports.{e_lo_is}
 use Rattle.report_text.specs.Joules.{millijoules}
 use Rattle.report_text.specs.ReportText.{flash_text}
-use Rattle.report_text.proofs.Regroup.{adds-then}
+use Rattle.dec_text.proofs.Exports.{adds-then}
 use Rattle.report_text.proofs.reports.put_flash.Goals as goal
 
 -- joules by the lower end of log2 e, which is the same in every case

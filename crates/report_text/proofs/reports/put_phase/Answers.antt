@@ -1,5 +1,5 @@
 use Rattle.report_text.proofs.Parts.{parts_small}
-use Rattle.report_text.proofs.Regroup.{adds-then}
+use Rattle.dec_text.proofs.Exports.{adds-then}
 use Rattle.report_text.proofs.reports.put_phase.Goals as goal
 
 pub moles-live-requires-clause-small : goal.moles-live-requires-clause-small

@@ -1,5 +1,5 @@
 use Rattle.std.proofs.Common.{arith}
-use Rattle.report_text.proofs.Regroup.{adds-then, adds-as}
+use Rattle.dec_text.proofs.Exports.{adds-then, adds-as}
 use Rattle.report_text.proofs.Phases.{phases_text-take}
 use Rattle.report_text.proofs.reports.put_phases.Goals as goal
 

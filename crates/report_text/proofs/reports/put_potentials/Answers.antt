@@ -3,7 +3,7 @@ use Rattle.std.specs.Int.{w128}
 use Rattle.std.proofs.lemmas.Int.{to_z-of_z}
 use Rattle.report_text.specs.ReportText.{potential_text}
 use Rattle.report_text.proofs.Components.{texts_below-more}
-use Rattle.report_text.proofs.Regroup.{adds-then, adds-as}
+use Rattle.dec_text.proofs.Exports.{adds-then, adds-as}
 use Rattle.report_text.proofs.reports.put_potentials.Goals as goal
 
 pub loop-i-preserved : goal.loop-i-preserved

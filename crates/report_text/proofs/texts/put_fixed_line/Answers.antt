@@ -1,7 +1,7 @@
 use Rattle.std.proofs.Common.{rules, SFits}
 use Rattle.std.specs.Int.{w128}
 use Rattle.std.proofs.lemmas.Int.{to_z-of_z}
-use Rattle.report_text.proofs.Regroup.{adds-then}
+use Rattle.dec_text.proofs.Exports.{adds-then}
 use Rattle.report_text.proofs.texts.put_fixed_line.Goals as goal
 
 pub returns : goal.returns

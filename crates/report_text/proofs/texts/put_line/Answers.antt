@@ -1,4 +1,4 @@
-use Rattle.report_text.proofs.Regroup.{adds-then}
+use Rattle.dec_text.proofs.Exports.{adds-then}
 use Rattle.report_text.proofs.texts.put_line.Goals as goal
 
 pub returns : goal.returns

@@ -1,0 +1,9 @@
+use Rattle.std.proofs.Common.{rules, SFits}
+use Rattle.std.specs.Int.{w128}
+use Rattle.std.proofs.lemmas.Int.{to_z-of_z}
+use Rattle.cert_format.proofs.entries.one.Goals as goal
+
+pub returns : goal.returns
+returns c =
+    let fits_z : SFits w128 c.args.z = search rules in
+    simp to_z-of_z at c.saying.ensures
