@@ -11,7 +11,7 @@ use Rattle.cert_format.specs.declared.verdicts.Verdict.{Verdict}
 use Rattle.cert_format.specs.declared.verdicts.Verdict.TheVariants.{Accepted, BadParams, BadBalance, BadEnergy, BadGap, BadLeaf, Refused, ReadFault, Memory}
 use Rattle.cert_check.specs.Checking.{State, InHead, Gives, Takes}
 use Rattle.cert_check.specs.Judging.{IsVerdict}
-use Rattle.cert_check.proofs.NotTooLong.{not_too_long}
+use Rattle.cert_check.proofs.OfTexts.{not_too_long}
 use Rattle.cert_check.specs.Streams.{limit, past_limit, IsPastLimit, IsStreamVerdict, IsTextVerdict, Judges}
 
 -- ---- one byte of a list
@@ -164,6 +164,10 @@ takes_exactly count taken left left' after s piece far next exact = record {
 }
 
 -- ---- a whole text
+pub whole_text : (s after : State) (text : List ℕ) (v : Verdict) → s ≡ InHead blank [] → Takes s text after (Some v) → IsVerdict text v
+whole_text s after text v e step =
+    subst (λ (x : List ℕ). IsVerdict x v) (append-nil text) (subst (λ (x : State). Gives x (text ++ []) v) e (step.0 []))
+
 -- all that a source told was read
 pub all_read : (left left' : Option (List ℕ)) (text : List ℕ) (v : Verdict) → length text ≤ limit → left ≡ ahead text left' → IsSpent left' → IsVerdict text v
     → (bytes : List ℕ) → left ≡ Some bytes → IsTextVerdict bytes v

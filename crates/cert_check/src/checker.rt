@@ -9,11 +9,10 @@ ghost use Rattle.cert_check.specs.Streams.{past_limit};
 ghost use Rattle.cert_check.specs.Tests.{first_broken};
 
 use crate::broken::Broken;
-use crate::head_stub::HeadReader;
 use crate::line::LineStart;
 use crate::tail::Tail;
 use crate::testing::first_broken;
-use cert_format::{CertFault, Head, HeadStep, Verdict};
+use cert_format::{CertFault, Head, HeadReader, HeadStep, Verdict};
 use log_enclose::Logarithms;
 use std::marker::Model;
 

@@ -9,7 +9,6 @@
 
 mod broken;
 mod checker;
-mod head_stub;
 mod laws;
 mod leaves;
 mod line;
@@ -17,6 +16,8 @@ mod line_count;
 mod streams;
 mod tail;
 mod testing;
+#[cfg(test)]
+mod tests;
 
 pub use broken::Broken;
 pub use laws::{accepted_is_good, good_certifies};
