@@ -1,22 +1,17 @@
 -- The text of a good certificate is accepted.
-use Rattle.std.proofs.Common.{◌≡◌, ℕ, ◌≤◌, List, ◌∷◌, [], ◌++◌, length, refl, sym, ap, subst, ◌∙◌, arith, Bool, Option, Some, None, IsTrue}
+use Rattle.std.proofs.Common.{◌≡◌, ℕ, List, ◌∷◌, [], ◌++◌, length, refl, sym, ap, subst, ◌∙◌, Bool, None, IsTrue}
 use Rattle.std.specs.Prelude.{codes}
 use Rattle.case_types.specs.Grid.Cells.{Region, Mark, Tree, Leaf, Node, root_region, lower_half, upper_half}
 use Rattle.cert_format.specs.declared.heads.Head.{Head}
-use Rattle.cert_format.specs.declared.verdicts.Verdict.{Verdict}
 use Rattle.cert_format.specs.declared.verdicts.Verdict.TheVariants.{Accepted}
-use Rattle.cert_format.specs.Heads.{cert_text, head_text, shape_of}
-use Rattle.cert_format.specs.Reading.{IsHeadOf}
 use Rattle.cert_format.proofs.Exports.{heads_are_read_back}
 use Rattle.cert_letters.specs.Lines.{IsGoodTree, tree_letters, line_end, Behind}
 use Rattle.cert_letters.specs.Readings.{fresh}
 use Rattle.cert_letters.proofs.Exports.{tree_again}
-use Rattle.cert_lines.specs.Heads.{Draft, blank}
+use Rattle.cert_lines.specs.Heads.{blank}
 use Rattle.cert_lines.specs.HeadTexts.{HeadEnd, Whole, head_end}
-use Rattle.cert_lines.specs.declared.places.Shape.{Shape}
-use Rattle.cert_check.specs.Certificates.{IsGoodText}
 use Rattle.cert_check.specs.Converse.{GoodIsAccepted}
-use Rattle.cert_check.specs.Judging.{IsVerdict, IsVerdictAfter, verdict_behind_head, verdict_after, verdict_behind_letters, verdict_at_end, verdict_behind_end}
+use Rattle.cert_check.specs.Judging.{IsVerdictAfter, verdict_behind_head, verdict_after, verdict_behind_letters, verdict_at_end, verdict_behind_end}
 use Rattle.cert_check.specs.Tests.{first_broken, passes}
 use Rattle.cert_check.proofs.SameHeads.{AreHeadsSame, heads_same}
 use Rattle.cert_check.proofs.SameTests.{broken-same, passes-same}

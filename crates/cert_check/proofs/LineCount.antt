@@ -1,5 +1,5 @@
 -- How many lines a head has.
-use Rattle.std.proofs.Common.{◌≡◌, ℕ, zero, suc, ◌+◌, ◌*◌, ◌≤◌, List, [], ◌∷◌, ◌++◌, length, map, refl, arith, Bool, true, false, if◌then◌else◌}
+use Rattle.std.proofs.Common.{◌≡◌, ℕ, zero, suc, ◌+◌, ◌*◌, ◌≤◌, [], ◌∷◌, length, refl, arith, Bool, true, false, if◌then◌else◌}
 use Rattle.std.specs.Prelude.{◌==◌}
 use Rattle.std.proofs.lemmas.Bool.{eqb-true}
 use Rattle.std.proofs.lemmas.List.{length-append, length-map}
@@ -7,7 +7,7 @@ use Rattle.std.proofs.lemmas.List.FromFn.{length-map-range_with_len}
 use Rattle.cert_lines.specs.declared.places.Place.{Place}
 use Rattle.cert_lines.specs.declared.places.Place.TheVariants.{Edition, Component, Interaction, TemperatureRoot, PressureRoot, Phase}
 use Rattle.cert_lines.specs.declared.places.Shape.{Shape}
-use Rattle.cert_lines.specs.Places.{places, edition_line, numbered, paired, pairs_of}
+use Rattle.cert_lines.specs.Places.{places, edition_line, paired, pairs_of}
 use Rattle.cert_format.specs.declared.heads.Head.{Head}
 use Rattle.cert_format.specs.Heads.{says, said_of, shape_of}
 

@@ -1,6 +1,6 @@
 -- The certificate of a lawful answer is that of a good one.
-use Rattle.std.proofs.Common.{◌≡◌, ℕ, zero, suc, ◌+◌, ◌*◌, ◌-◌, ◌<◌, ◌≤◌, List, [], ◌∷◌, length, map, take, refl, sym, ap, subst, ◌∙◌, arith, Bool, true, false, not, Option, Some, None, ℤ, int_eq}
-use Rattle.std.specs.Prelude.{◌==◌, ◌&&◌, if◌then◌else◌, is_some}
+use Rattle.std.proofs.Common.{◌≡◌, ℕ, zero, suc, ◌+◌, ◌*◌, ◌<◌, List, [], ◌∷◌, length, map, refl, sym, ap, subst, ◌∙◌, arith, Bool, true, not, Option, Some, None, ℤ, int_eq}
+use Rattle.std.specs.Prelude.{◌&&◌, if◌then◌else◌, is_some}
 use Rattle.std.proofs.lemmas.Bool.{eq-eqb}
 use Rattle.log_laws.specs.Between.{Ends}
 use Rattle.log_laws.specs.Interval.{ends_of}
@@ -8,30 +8,27 @@ use Rattle.log_laws.specs.Sums.{all_below}
 use Rattle.log_laws.specs.declared.iv.Iv.{Iv}
 use Rattle.log_laws.proofs.Exports.{all_below-from}
 use Rattle.case_types.specs.declared.answers.Answer.{Answer}
-use Rattle.case_types.specs.Arithmetic.Faults.{fault_of, first_below, or_else}
+use Rattle.case_types.specs.Arithmetic.Faults.{fault_of, first_below}
 use Rattle.case_types.specs.Arithmetic.Numbers.{numbers_of, enclosures_of}
 use Rattle.case_types.specs.Arithmetic.Splits.{split_up}
-use Rattle.case_types.specs.Arithmetic.Bounds.{energy_up, plane_at}
+use Rattle.case_types.specs.Arithmetic.Bounds.{energy_up}
 use Rattle.case_types.specs.Arithmetic.Tables.{ends_at}
-use Rattle.case_types.specs.Energy.Divisions.{AddsUp, Divides, division_of, parts_in}
+use Rattle.case_types.specs.Energy.Divisions.{AddsUp, division_of, parts_in}
 use Rattle.case_types.specs.Energy.Components.{feed}
 use Rattle.case_types.specs.Energy.Instances.{Enclosures, pair_place}
-use Rattle.case_types.specs.Energy.Printed.{enclosures_in, ends_in}
+use Rattle.case_types.specs.Energy.Printed.{ends_in}
 use Rattle.case_types.specs.Grid.Cells.{root_region}
-use Rattle.energy_surface.specs.Lawful.{IsLawful}
 use Rattle.energy_surface.specs.Outcomes.{IsAnswer}
 use Rattle.pr_params.specs.declared.numbers.Params.{Params}
 use Rattle.pr_params.proofs.Exports.{count_of}
 use Rattle.pr_surface.specs.PengRobinson.{surface_of}
-use Rattle.cert_format.specs.declared.heads.Head.{Head}
-use Rattle.cert_format.specs.Heads.{IsHead, text_with}
+use Rattle.cert_format.specs.Heads.{text_with}
 use Rattle.cert_format.specs.Writing.{head_of, last_letters}
 use Rattle.cert_format.proofs.Exports.{answers_write_trees}
 use Rattle.cert_letters.specs.Bounds.{leaf_test}
 use Rattle.cert_letters.specs.Lines.{IsGoodTree, tree_letters}
-use Rattle.cert_check.specs.Certificates.{IsGood}
 use Rattle.cert_check.specs.Converse.{AnswersAreAccepted}
-use Rattle.cert_check.specs.Tests.{are_same, states_pairs, are_good_params, adds_up_at, first_unbalanced, is_energy, is_gap, first_broken, passes, surface_in}
+use Rattle.cert_check.specs.Tests.{are_same, states_pairs, are_good_params, adds_up_at, first_unbalanced, first_broken}
 use Rattle.cert_check.proofs.Converse.{good_is_accepted}
 
 -- ---- the printed pairs

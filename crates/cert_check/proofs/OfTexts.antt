@@ -1,5 +1,5 @@
 -- No text has the verdict of a stream that fails or is too long, or of want of memory.
-use Rattle.std.proofs.Common.{◌≡◌, ℕ, ◌+◌, List, [], ◌∷◌, ◌++◌, length, refl, sym, subst, ◌∙◌, ap, Bool, true, false, if◌then◌else◌, Option, Some, None}
+use Rattle.std.proofs.Common.{◌≡◌, ℕ, ◌+◌, List, [], ◌∷◌, ◌++◌, length, refl, subst, ◌∙◌, ap, Bool, true, false, if◌then◌else◌, Option, Some, None}
 use Rattle.std.specs.Prelude.{◌==◌, codes}
 use Rattle.std.specs.Str.{bytes_eq}
 use Rattle.cert_letters.specs.Lines.{LineEnd, CutAt, BadAt, FailsAt, Behind, line_end}

@@ -12,7 +12,7 @@ use Rattle.cert_format.specs.declared.verdicts.Verdict.TheVariants.{Accepted, Ba
 use Rattle.cert_check.specs.Checking.{State, InHead, Gives, Takes}
 use Rattle.cert_check.specs.Judging.{IsVerdict}
 use Rattle.cert_check.proofs.OfTexts.{not_too_long}
-use Rattle.cert_check.specs.Streams.{limit, past_limit, IsPastLimit, IsStreamVerdict, IsTextVerdict, Judges}
+use Rattle.cert_check.specs.Streams.{limit, past_limit, IsStreamVerdict, IsTextVerdict, Judges}
 
 -- ---- one byte of a list
 -- what is left to judge at this byte is what was at the first

@@ -1,6 +1,6 @@
 -- Heads that say the same agree in every live number.
-use Rattle.std.proofs.Common.{◌≡◌, ℕ, zero, suc, ◌+◌, ◌<◌, ◌≤◌, List, [], ◌∷◌, ◌++◌, length, take, map, refl, sym, ap, subst, ◌∙◌, arith, inl, inr, ℤ, pos}
-use Rattle.std.specs.Prelude.{◌⊎◌, slice_index, slice_index_or}
+use Rattle.std.proofs.Common.{◌≡◌, ℕ, zero, suc, ◌+◌, ◌<◌, List, [], ◌∷◌, length, take, map, refl, sym, ap, ◌∙◌, arith, inl, inr, ℤ, pos}
+use Rattle.std.specs.Prelude.{slice_index, slice_index_or}
 use Rattle.std.proofs.lemmas.Bool.{cases_lt}
 use Rattle.log_laws.specs.Between.{Ends}
 use Rattle.log_laws.specs.Interval.{ends_of}
@@ -10,7 +10,7 @@ use Rattle.case_types.specs.declared.cases.Edition.TheVariants.{Y1976, Y1978}
 use Rattle.case_types.specs.declared.phases.Phase.{Phase}
 use Rattle.case_types.specs.Arithmetic.Bounds.{potential}
 use Rattle.case_types.specs.Arithmetic.Tables.{ends_at}
-use Rattle.case_types.specs.Energy.Components.{critical_temperature, critical_pressure, acentric_factor, interaction, feed}
+use Rattle.case_types.specs.Energy.Components.{critical_temperature, critical_pressure, interaction, feed}
 use Rattle.case_types.specs.Energy.Instances.{pair_place}
 use Rattle.cert_format.specs.declared.heads.Head.{Head}
 use Rattle.cert_format.specs.Heads.{says, said_of, shape_of, saying, phase_said, edition_number, IsHead, IsVersionOf}

@@ -1,5 +1,5 @@
 -- Planes with the same potentials of n components have the same lows over a cell, and pass the same leaves.
-use Rattle.std.proofs.Common.{◌≡◌, ℕ, ◌<◌, ◌≤◌, List, refl, Some, ℤ, pos, ◌*ℤ◌, ap}
+use Rattle.std.proofs.Common.{◌≡◌, ◌≤◌, List, refl, Some, ℤ, pos, ◌*ℤ◌, ap}
 use Rattle.log_laws.specs.Interval.{ends}
 use Rattle.log_laws.specs.Whole.{floor_over, ceil_over}
 use Rattle.log_laws.proofs.Exports.{sum-same, all_below-same}

@@ -1,25 +1,19 @@
 -- Heads that say the same pass the same tests.
-use Rattle.std.proofs.Common.{◌≡◌, ℕ, ◌+◌, ◌*◌, ◌-◌, ◌<◌, ◌≤◌, List, map, refl, sym, subst, ◌∙◌, arith, Bool, Option, Some, None, ℤ, ◌-ℤ◌, ap, int_eq}
-use Rattle.std.specs.Prelude.{◌==◌, ◌&&◌, if◌then◌else◌, slice_index}
+use Rattle.std.proofs.Common.{◌≡◌, ℕ, ◌+◌, map, refl, sym, subst, ◌∙◌, arith, Some, None, ap}
+use Rattle.std.specs.Prelude.{if◌then◌else◌}
 use Rattle.log_laws.specs.Between.{Ends}
 use Rattle.log_laws.specs.Interval.{ends_of}
 use Rattle.log_laws.specs.Sums.{all_below}
 use Rattle.log_laws.proofs.Exports.{all_below-same}
-use Rattle.case_types.specs.Arithmetic.Bounds.{energy_up, plane_at}
-use Rattle.case_types.specs.Arithmetic.Faults.{first_below}
-use Rattle.case_types.specs.Arithmetic.Numbers.{Numbers, numbers_of, enclosures_of}
+use Rattle.case_types.specs.Arithmetic.Bounds.{energy_up}
+use Rattle.case_types.specs.Arithmetic.Numbers.{numbers_of, enclosures_of}
 use Rattle.case_types.specs.Arithmetic.Same.{ArePotentialsSame}
-use Rattle.case_types.specs.Arithmetic.Splits.{split_up, phases_up}
 use Rattle.case_types.specs.Arithmetic.Tables.{ends_at}
-use Rattle.case_types.specs.Energy.Components.{feed}
-use Rattle.case_types.specs.Energy.Divisions.{parts_in, state_of}
 use Rattle.case_types.specs.Energy.Instances.{Enclosures, pair_place}
 use Rattle.case_types.specs.Grid.Cells.{Region, Mark}
 use Rattle.case_types.proofs.Exports.{first_below-same, enclosures-same, numbers-same, fault-same, plane_at-same, phases_up-same, parts_in-same}
 use Rattle.cert_format.specs.declared.heads.Head.{Head}
-use Rattle.cert_letters.specs.Bounds.{leaf_test}
 use Rattle.pr_params.proofs.Exports.{count_of}
-use Rattle.pr_surface.specs.PengRobinson.{surface_of}
 use Rattle.cert_check.specs.Tests.{are_same, states_pairs, are_good_params, adds_up_at, first_unbalanced, is_energy, is_gap, first_broken, passes}
 use Rattle.cert_check.proofs.SameHeads.{AreHeadsSame}
 use Rattle.cert_check.proofs.SameLows.{leaf_test-same}

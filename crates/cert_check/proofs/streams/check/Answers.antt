@@ -1,7 +1,7 @@
-use Rattle.std.proofs.Common.{inl, ◌∙◌, subst, List, ℕ}
+use Rattle.std.proofs.Common.{inl, subst, List, ℕ}
 use Rattle.cert_check.specs.Judging.{IsVerdict}
 use Rattle.cert_check.proofs.OfTexts.{not_read_fault}
-use Rattle.cert_check.proofs.Running.{judges_text, judges_too_long}
+use Rattle.cert_check.proofs.Running.{judges_text}
 use Rattle.cert_check.proofs.streams.check.Goals as goal
 
 pub returns-in-Ok-clause-answers : goal.returns-in-Ok-clause-answers

@@ -1,4 +1,4 @@
-use Rattle.std.proofs.Common.{◌≡◌, ℕ, arith, subst, ◌∙◌, length, take, length-take, List, drop, Some, None}
+use Rattle.std.proofs.Common.{◌≡◌, ℕ, arith, subst, ◌∙◌, sym, length, take, length-take, List, drop, Some, None}
 use Rattle.std.proofs.lemmas.List.{take-append-le, length-take-le}
 use Rattle.cert_check.specs.Checking.{Takes}
 use Rattle.cert_check.proofs.Running.{goes_on, judges_found, judges_end, judges_past, found_whole, ends_whole}
