@@ -146,8 +146,7 @@ by_end text (Whole d bytes) u gap k is =
     let l = t.letters in
     let tree = line_takes h.params.case.n h.letters (passes h) bytes l.rest h.params.case.few l.ends in
     let read = heads_are_read.0 text d bytes k in
-    let front = head_lines read.0 d h read.1 is.1 in
-    (
+    let front = head_lines read.0 d h read.1 is.1 in (
       h,
       record {
         tree = tree.0;

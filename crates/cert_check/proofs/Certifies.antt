@@ -39,7 +39,7 @@ holds : (h : Head) → first_broken h ≡ None → Holds h
 unfolding first_broken
 holds h e =
     let a = or_else_none (unless (are_good_params h.params) Params)
-        (or_else (option_map Balance (first_unbalanced h)) (or_else (unless (is_energy h) Energy) (unless (is_gap h) Gap))) e in
+    (or_else (option_map Balance (first_unbalanced h)) (or_else (unless (is_energy h) Energy) (unless (is_gap h) Gap))) e in
     let b = or_else_none (option_map Balance (first_unbalanced h)) (or_else (unless (is_energy h) Energy) (unless (is_gap h) Gap)) a.1 in
     let c = or_else_none (unless (is_energy h) Energy) (unless (is_gap h) Gap) b.1 in
     record {

@@ -41,7 +41,7 @@ accepted_after h g t same unbroken good counted =
     let bytes : List ℕ = tree_letters n t ++ 10 ∷ rest in
     let none : first_broken g ≡ None = sym (broken-same h g same) ∙ unbroken in
     let read : line_end (passes g) (fresh n h.letters) 1 bytes ≡ Behind rest =
-        tree_again n h.letters (passes g) t rest few (good_by n (passes h) (passes g) (λ r mark. passes-same h g r mark same) t (root_region n) good) counted in
+    tree_again n h.letters (passes g) t rest few (good_by n (passes h) (passes g) (λ r mark. passes-same h g r mark same) t (root_region n) good) counted in
     ap (λ o. verdict_after g o bytes) none
     ∙ ap (λ (k : ℕ). verdict_behind_letters g (line_end (passes g) (fresh k g.letters) 1 bytes)) (sym same.case.count)
     ∙ ap (λ (k : ℕ). verdict_behind_letters g (line_end (passes g) (fresh n k) 1 bytes)) (sym same.letters)

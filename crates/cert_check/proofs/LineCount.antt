@@ -30,8 +30,16 @@ places_count : (s : Shape) (edition : ℕ) → s.n ≤ 4 → edition ≡ (if s.v
 unfolding places
 places_count s edition few e =
     rw (length-append, length-append, length-append, length-append, length-append, length-append)
-    (omega (arith, e, edition_count s.version, length-map-range_with_len Component 0 s.n, paired_count Interaction s.n few,
-    length-map-range_with_len TemperatureRoot 0 s.n, paired_count PressureRoot s.n few, length-map-range_with_len Phase 0 s.phases))
+    (omega (
+      arith,
+      e,
+      edition_count s.version,
+      length-map-range_with_len Component 0 s.n,
+      paired_count Interaction s.n few,
+      length-map-range_with_len TemperatureRoot 0 s.n,
+      paired_count PressureRoot s.n few,
+      length-map-range_with_len Phase 0 s.phases,
+    ))
 
 pub not_two : (v : ℕ) → (v ≡ 2 → ⊥) → (v == 2) ≡ false
 not_two v other = by_case (v == 2) refl

@@ -55,12 +55,12 @@ good_params p a =
     let two : are_same (ends_of p.two) e.root_two ≡ true = same_pair (ends_of p.two) e.root_two (ap (λ (x : Enclosures). x.root_two) printed) in
     let log_e : are_same (ends_of p.e) e.log_e ≡ true = same_pair (ends_of p.e) e.log_e (ap (λ (x : Enclosures). x.log_e) printed) in
     let ts = all_below-from p.case.n (λ i. are_same (ends_at (map ends_of p.t) i) (ends_at e.temperature_roots i))
-        (λ i l. same_pair (ends_at (map ends_of p.t) i) (ends_at e.temperature_roots i)
-        (first_ends p.case.n i p.t l ∙ ap (λ (x : Enclosures). ends_at x.temperature_roots i) printed)) in
+    (λ i l. same_pair (ends_at (map ends_of p.t) i) (ends_at e.temperature_roots i)
+    (first_ends p.case.n i p.t l ∙ ap (λ (x : Enclosures). ends_at x.temperature_roots i) printed)) in
     let qs = all_below-from p.case.n (λ j. all_below j (λ i. are_same (ends_at (map ends_of p.q) (pair_place i j)) (ends_at e.pressure_roots (pair_place i j))))
-        (λ j m. all_below-from j (λ i. are_same (ends_at (map ends_of p.q) (pair_place i j)) (ends_at e.pressure_roots (pair_place i j)))
-        (λ i l. same_pair (ends_at (map ends_of p.q) (pair_place i j)) (ends_at e.pressure_roots (pair_place i j))
-        (ap (λ (x : Enclosures). ends_at x.pressure_roots (pair_place i j)) printed))) in
+    (λ j m. all_below-from j (λ i. are_same (ends_at (map ends_of p.q) (pair_place i j)) (ends_at e.pressure_roots (pair_place i j)))
+    (λ i l. same_pair (ends_at (map ends_of p.q) (pair_place i j)) (ends_at e.pressure_roots (pair_place i j))
+    (ap (λ (x : Enclosures). ends_at x.pressure_roots (pair_place i j)) printed))) in
     both (not (is_some (fault_of p.case))) (states_pairs (head_of p a).params e) (rw p.accepted refl)
     (all_four (are_same (ends_of p.two) e.root_two) (are_same (ends_of p.e) e.log_e)
     (all_below p.case.n (λ i. are_same (ends_at (map ends_of p.t) i) (ends_at e.temperature_roots i)))
@@ -87,8 +87,12 @@ unfolding first_broken
 passes_tests p tol budget a h =
     let c = p.case in
     let up : a.u ≡ split_up c.n (energy_up (numbers_of c)) a.split = subst (λ (n : ℕ). a.u ≡ split_up n (energy_up (numbers_of c)) a.split) h.components h.upper in
-    rw (good_params p a, balanced p a h.divides.adds_up, same_number a.u (split_up c.n (energy_up (numbers_of c)) a.split) up,
-    same_number a.gap _ h.gap) refl
+    rw (
+      good_params p a,
+      balanced p a h.divides.adds_up,
+      same_number a.u (split_up c.n (energy_up (numbers_of c)) a.split) up,
+      same_number a.gap _ h.gap,
+    ) refl
 
 pub answers_are_accepted : AnswersAreAccepted
 answers_are_accepted p tol budget a few lawful head sized v judged =
@@ -100,7 +104,7 @@ answers_are_accepted p tol budget a few lawful head sized v judged =
     let letters = answers_write_trees s c tol budget a (omega (arith, some, count)) (omega (arith, most, count)) lawful in
     let t = letters.written.tree in
     let good : IsGoodTree c.n (leaf_test s a.plane.lam a.low) t (root_region c.n) =
-        subst (λ (n : ℕ). IsGoodTree n (leaf_test s a.plane.lam a.low) t (root_region n)) count letters.written.good in
+    subst (λ (n : ℕ). IsGoodTree n (leaf_test s a.plane.lam a.low) t (root_region n)) count letters.written.good in
     let written : last_letters a.work ≡ tree_letters c.n t = subst (λ (n : ℕ). last_letters a.work ≡ tree_letters n t) count letters.written.written in
     good_is_accepted _ (head_of p a) sized (record {
       tree = t;

@@ -88,11 +88,11 @@ take_past (suc limit) (x ∷ seen) rest short =
 settled : (v : Verdict) (seen rest : List ℕ) → length seen ≤ limit → ((bytes : List ℕ) → IsVerdict (seen ++ bytes) v) → past_limit v ≡ v → IsStreamVerdict (seen ++ rest) v
 settled v seen rest short gives same = elim (cases_lt limit (length (seen ++ rest))) [
   | inl long ↦ inr (record {
-      long = long;
-      within = v;
-      is_within = subst (λ (x : List ℕ). IsVerdict x v) (sym (take_past limit seen rest short)) (gives (take (limit - length seen) rest));
-      is = sym same;
-    })
+    long = long;
+    within = v;
+    is_within = subst (λ (x : List ℕ). IsVerdict x v) (sym (take_past limit seen rest short)) (gives (take (limit - length seen) rest));
+    is = sym same;
+  })
   | inr whole ↦ inl (whole, gives rest)
 ]
 
@@ -103,7 +103,7 @@ found taken left left' after s t v piece far next short step bytes told =
     let whole = ahead-step far.seen piece left left' after far.next next in
     let k = splits bytes seen left after whole told in
     let gives : (rest : List ℕ) → IsVerdict (seen ++ rest) v =
-        λ rest. subst (λ (x : List ℕ). IsVerdict x v) (sym (append_assoc far.seen piece rest)) (far.gives (piece ++ rest) v (step.0 rest)) in
+    λ rest. subst (λ (x : List ℕ). IsVerdict x v) (sym (append_assoc far.seen piece rest)) (far.gives (piece ++ rest) v (step.0 rest)) in
     subst (λ (x : List ℕ). IsStreamVerdict x v) (sym k.parts) (settled v seen k.rest (omega (arith, length-append far.seen piece, far.counted, short)) gives step.1)
 
 all_seen : (left left' : Option (List ℕ)) (seen bytes : List ℕ) → left ≡ ahead seen left' → IsSpent left' → left ≡ Some bytes → bytes ≡ seen
