@@ -1,12 +1,11 @@
 -- What is accepted is the text of a good certificate.
-use Rattle.std.proofs.Common.{◌≡◌, ℕ, suc, ◌+◌, ◌≤◌, List, [], ◌∷◌, ◌++◌, length, map, refl, sym, ap, subst, ◌∙◌, arith, Option, Some, None, Bool, true, false, append_assoc, if◌then◌else◌, ℤ}
+use Rattle.std.proofs.Common.{◌≡◌, ℕ, suc, ◌+◌, List, [], ◌∷◌, ◌++◌, length, map, refl, sym, ap, ◌∙◌, arith, Option, Some, None, Bool, true, false, append_assoc, if◌then◌else◌, ℤ}
 use Rattle.std.specs.Prelude.{◌==◌, codes}
 use Rattle.std.specs.Str.{bytes_eq}
 use Rattle.std.specs.List.{slice_get}
 use Rattle.std.proofs.lemmas.List.{length-append}
 use Rattle.std.proofs.lemmas.Bool.{eqb-true}
 use Rattle.std.proofs.lemmas.Slice.Eq.{bytes_eq-Decides}
-use Rattle.case_types.specs.Grid.Cells.{root_region}
 use Rattle.cert_letters.specs.Lines.{LineEnd, CutAt, BadAt, FailsAt, Behind, line_end, tree_letters}
 use Rattle.cert_letters.specs.Readings.{fresh}
 use Rattle.cert_letters.proofs.Exports.{line_takes}
@@ -19,14 +18,13 @@ use Rattle.cert_lines.specs.Heads.{Draft, blank, put}
 use Rattle.cert_lines.specs.HeadTexts.{HeadEnd, CutOff, Wrong, Whole, head_end, with_lines, lines_text, Says}
 use Rattle.cert_lines.proofs.Exports.{heads_are_read, lines_take, places_stand, shape_kept}
 use Rattle.cert_format.specs.declared.heads.Head.{Head}
-use Rattle.cert_format.specs.declared.verdicts.Verdict.{Verdict}
 use Rattle.cert_format.specs.declared.verdicts.Verdict.TheVariants.{Accepted, Refused}
-use Rattle.cert_format.specs.Heads.{says, said_of, shape_of, head_text, line_of, cert_text}
+use Rattle.cert_format.specs.Heads.{says, said_of, shape_of, head_text, line_of}
 use Rattle.cert_format.specs.Reading.{IsHeadOf}
 use Rattle.cert_check.specs.declared.broken.Broken.{Broken}
 use Rattle.cert_check.specs.declared.broken.Broken.TheVariants as broken
 use Rattle.cert_check.specs.Tests.{first_broken, passes}
-use Rattle.cert_check.specs.Judging.{verdict_of, verdict_behind_end, verdict_at_end, verdict_behind_letters, verdict_after, verdict_behind_head, IsVerdictAfter, IsVerdict}
+use Rattle.cert_check.specs.Judging.{verdict_of, verdict_behind_end, verdict_at_end, verdict_behind_letters, verdict_after, verdict_behind_head, IsVerdictAfter}
 use Rattle.cert_check.specs.Certificates.{IsGoodText, AcceptedIsGood}
 
 -- ---- behind the letters
@@ -148,8 +146,7 @@ by_end text (Whole d bytes) u gap k is =
     let l = t.letters in
     let tree = line_takes h.params.case.n h.letters (passes h) bytes l.rest h.params.case.few l.ends in
     let read = heads_are_read.0 text d bytes k in
-    let front = head_lines read.0 d h read.1 is.1 in
-    (
+    let front = head_lines read.0 d h read.1 is.1 in (
       h,
       record {
         tree = tree.0;

@@ -1,17 +1,14 @@
 -- The parts of the phases, component by component.
-use Rattle.std.proofs.Common.{◌≡◌, ℕ, zero, suc, ◌+◌, ◌*◌, ◌^◌, ◌<◌, ◌≤◌, List, get_or, length, map, nat_le, nat_lt, ap, sym, ◌∙◌, arith, add-one, refl, Bool, true, false, if◌then◌else◌, Option, Some, None, inl, inr, slice_index}
+use Rattle.std.proofs.Common.{◌≡◌, ℕ, zero, suc, ◌+◌, ◌*◌, ◌<◌, get_or, length, arith, add-one, refl, Bool, true, false, if◌then◌else◌, Option, Some, None, inl, inr}
 use Rattle.std.specs.Prelude.{◌==◌}
 use Rattle.std.specs.List.{All}
 use Rattle.std.proofs.lemmas.Bool.{cases_lt, eqb-true}
 use Rattle.std.proofs.lemmas.List.Elements.{All-map}
 use Rattle.std.proofs.lemmas.List.Sums.{AllPass-from_list_all}
-use Rattle.log_laws.specs.Sums.{sum_below}
-use Rattle.case_types.specs.declared.cases.Case.{Case}
 use Rattle.case_types.specs.declared.phases.Phase.{Phase}
-use Rattle.case_types.specs.declared.phases.Split.{Split}
 use Rattle.case_types.specs.Arithmetic.Faults.{first_below, or_else}
 use Rattle.case_types.specs.Energy.Components.{feed}
-use Rattle.case_types.specs.Energy.Divisions.{State, IsState, Divides, AddsUp, moles, state_of, division_of, parts_in}
+use Rattle.case_types.specs.Energy.Divisions.{IsState, Divides, AddsUp, state_of, division_of, parts_in}
 use Rattle.case_types.specs.Ranges.{is_packing}
 use Rattle.case_types.proofs.Exports.{state_of-is_state}
 use Rattle.cert_format.specs.declared.heads.Head.{Head}

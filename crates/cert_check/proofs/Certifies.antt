@@ -1,10 +1,8 @@
 -- What a good certificate certifies.
-use Rattle.std.proofs.Common.{◌≡◌, ℕ, ◌-ℤ◌, refl, sym, subst, Bool, true, false, not, ◌&&◌, if◌then◌else◌, Option, Some, None, ℤ, arith}
+use Rattle.std.proofs.Common.{◌≡◌, ℕ, ◌-ℤ◌, refl, Bool, true, false, not, Option, Some, None, ℤ, arith}
 use Rattle.std.specs.Prelude.{is_some}
 use Rattle.std.specs.Option.{option_map}
 use Rattle.std.specs.Ordering.{int_eq}
-use Rattle.std.proofs.lemmas.Int.{ints}
-use Rattle.case_types.specs.declared.cases.Case.{Case}
 use Rattle.case_types.specs.declared.cases.ParamFault.{ParamFault}
 use Rattle.case_types.specs.Arithmetic.Bounds.{energy_up, plane_at}
 use Rattle.case_types.specs.Arithmetic.Faults.{fault_of, or_else}
@@ -19,7 +17,7 @@ use Rattle.cert_format.specs.declared.heads.Head.{Head}
 use Rattle.cert_check.specs.declared.broken.Broken.{Broken}
 use Rattle.cert_check.specs.declared.broken.Broken.TheVariants.{Params, Balance, Energy, Gap}
 use Rattle.cert_check.specs.Tests.{first_broken, first_unbalanced, are_good_params, states_pairs, is_energy, is_gap, unless, surface_in}
-use Rattle.cert_check.specs.Certificates.{IsGood, GoodCertifies}
+use Rattle.cert_check.specs.Certificates.{GoodCertifies}
 use Rattle.cert_check.proofs.Balances.{divides, or_else_none}
 
 -- ---- what holds where no test breaks
@@ -41,7 +39,7 @@ holds : (h : Head) → first_broken h ≡ None → Holds h
 unfolding first_broken
 holds h e =
     let a = or_else_none (unless (are_good_params h.params) Params)
-        (or_else (option_map Balance (first_unbalanced h)) (or_else (unless (is_energy h) Energy) (unless (is_gap h) Gap))) e in
+    (or_else (option_map Balance (first_unbalanced h)) (or_else (unless (is_energy h) Energy) (unless (is_gap h) Gap))) e in
     let b = or_else_none (option_map Balance (first_unbalanced h)) (or_else (unless (is_energy h) Energy) (unless (is_gap h) Gap)) a.1 in
     let c = or_else_none (unless (is_energy h) Energy) (unless (is_gap h) Gap) b.1 in
     record {

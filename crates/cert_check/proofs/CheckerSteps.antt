@@ -4,7 +4,7 @@ use Rattle.std.specs.Prelude.{◌==◌, IsSome}
 use Rattle.cert_letters.specs.Lines.{line_end}
 use Rattle.cert_letters.specs.Readings.{fresh}
 use Rattle.cert_lines.specs.Heads.{Draft, with_line, next_place, fault_of}
-use Rattle.cert_lines.specs.HeadTexts.{HeadEnd, Wrong, Whole, head_end}
+use Rattle.cert_lines.specs.HeadTexts.{HeadEnd}
 use Rattle.cert_lines.specs.declared.faults.CertFault.{CertFault}
 use Rattle.cert_lines.specs.declared.faults.CertFault.TheVariants.{Head as NoHead, Line}
 use Rattle.cert_lines.specs.declared.places.Place.{Place}

@@ -1,22 +1,17 @@
 -- The text of a good certificate is accepted.
-use Rattle.std.proofs.Common.{◌≡◌, ℕ, ◌≤◌, List, ◌∷◌, [], ◌++◌, length, refl, sym, ap, subst, ◌∙◌, arith, Bool, Option, Some, None, IsTrue}
+use Rattle.std.proofs.Common.{◌≡◌, ℕ, List, ◌∷◌, [], ◌++◌, length, refl, sym, ap, subst, ◌∙◌, Bool, None, IsTrue}
 use Rattle.std.specs.Prelude.{codes}
 use Rattle.case_types.specs.Grid.Cells.{Region, Mark, Tree, Leaf, Node, root_region, lower_half, upper_half}
 use Rattle.cert_format.specs.declared.heads.Head.{Head}
-use Rattle.cert_format.specs.declared.verdicts.Verdict.{Verdict}
 use Rattle.cert_format.specs.declared.verdicts.Verdict.TheVariants.{Accepted}
-use Rattle.cert_format.specs.Heads.{cert_text, head_text, shape_of}
-use Rattle.cert_format.specs.Reading.{IsHeadOf}
 use Rattle.cert_format.proofs.Exports.{heads_are_read_back}
 use Rattle.cert_letters.specs.Lines.{IsGoodTree, tree_letters, line_end, Behind}
 use Rattle.cert_letters.specs.Readings.{fresh}
 use Rattle.cert_letters.proofs.Exports.{tree_again}
-use Rattle.cert_lines.specs.Heads.{Draft, blank}
+use Rattle.cert_lines.specs.Heads.{blank}
 use Rattle.cert_lines.specs.HeadTexts.{HeadEnd, Whole, head_end}
-use Rattle.cert_lines.specs.declared.places.Shape.{Shape}
-use Rattle.cert_check.specs.Certificates.{IsGoodText}
 use Rattle.cert_check.specs.Converse.{GoodIsAccepted}
-use Rattle.cert_check.specs.Judging.{IsVerdict, IsVerdictAfter, verdict_behind_head, verdict_after, verdict_behind_letters, verdict_at_end, verdict_behind_end}
+use Rattle.cert_check.specs.Judging.{IsVerdictAfter, verdict_behind_head, verdict_after, verdict_behind_letters, verdict_at_end, verdict_behind_end}
 use Rattle.cert_check.specs.Tests.{first_broken, passes}
 use Rattle.cert_check.proofs.SameHeads.{AreHeadsSame, heads_same}
 use Rattle.cert_check.proofs.SameTests.{broken-same, passes-same}
@@ -46,7 +41,7 @@ accepted_after h g t same unbroken good counted =
     let bytes : List ℕ = tree_letters n t ++ 10 ∷ rest in
     let none : first_broken g ≡ None = sym (broken-same h g same) ∙ unbroken in
     let read : line_end (passes g) (fresh n h.letters) 1 bytes ≡ Behind rest =
-        tree_again n h.letters (passes g) t rest few (good_by n (passes h) (passes g) (λ r mark. passes-same h g r mark same) t (root_region n) good) counted in
+    tree_again n h.letters (passes g) t rest few (good_by n (passes h) (passes g) (λ r mark. passes-same h g r mark same) t (root_region n) good) counted in
     ap (λ o. verdict_after g o bytes) none
     ∙ ap (λ (k : ℕ). verdict_behind_letters g (line_end (passes g) (fresh k g.letters) 1 bytes)) (sym same.case.count)
     ∙ ap (λ (k : ℕ). verdict_behind_letters g (line_end (passes g) (fresh n k) 1 bytes)) (sym same.letters)

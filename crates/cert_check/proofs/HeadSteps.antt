@@ -1,9 +1,9 @@
 -- A byte of a line of the head.
-use Rattle.std.proofs.Common.{◌≡◌, ℕ, ◌≤◌, List, [], ◌∷◌, ◌++◌, length, refl, subst, sym, Bool, true, false, inl, inr, if◌then◌else◌, Option, Some, None}
+use Rattle.std.proofs.Common.{◌≡◌, ℕ, ◌≤◌, List, [], ◌∷◌, ◌++◌, length, refl, Bool, true, false, inl, inr, if◌then◌else◌, Option, Some, None}
 use Rattle.std.specs.Prelude.{◌==◌}
 use Rattle.std.proofs.lemmas.Bool.{cases_lt}
 use Rattle.cert_lines.specs.Heads.{Draft, with_line, next_place, fault_of}
-use Rattle.cert_lines.specs.HeadTexts.{HeadEnd, Wrong, Whole, head_end, after_line}
+use Rattle.cert_lines.specs.HeadTexts.{Wrong, Whole, head_end}
 use Rattle.cert_lines.specs.declared.places.Place.{Place}
 use Rattle.cert_lines.proofs.Exports.{long_line}
 use Rattle.cert_check.specs.Checking.{longer}

@@ -1,10 +1,10 @@
 -- A byte of the line of letters.
-use Rattle.std.proofs.Common.{◌≡◌, ℕ, ◌+◌, ◌-◌, ◌≤◌, List, [], ◌∷◌, refl, sym, ◌∙◌, arith, Bool, true, false, ◌⊎◌, inl, inr, Option, Some, None}
+use Rattle.std.proofs.Common.{◌≡◌, ℕ, ◌+◌, ◌≤◌, List, [], ◌∷◌, refl, sym, ◌∙◌, arith, Bool, true, false, ◌⊎◌, inl, inr, Option, Some, None}
 use Rattle.std.specs.Prelude.{◌==◌, ◌&&◌}
 use Rattle.std.proofs.lemmas.Bool.{eqb-true}
 use Rattle.case_types.specs.Grid.Cells.{Region, Mark, Step, Ends, Halves, Visit}
 use Rattle.cert_letters.specs.Lines.{LineEnd, judged, line_end}
-use Rattle.cert_letters.specs.Readings.{Reading, is_whole, visit_of, next, by_visit, told, told_step, told_visit, Told, Within, LeafAt, Refused as NoLetter}
+use Rattle.cert_letters.specs.Readings.{Reading, is_whole, visit_of, next, told, told_step, told_visit, Within, LeafAt, Refused as NoLetter}
 use Rattle.cert_letters.proofs.Exports.{letters_count}
 use Rattle.cert_lines.specs.declared.faults.CertFault.TheVariants.{Tree}
 use Rattle.cert_format.specs.declared.heads.Head.{Head}

@@ -15,4 +15,5 @@ pub mod CheckerSteps
 pub mod Running
 pub mod Certifies
 pub mod Accepted
-pub mod NotTooLong
+pub mod OfTexts
+pub mod Exports

@@ -1,5 +1,5 @@
 -- How many lines a head has.
-use Rattle.std.proofs.Common.{◌≡◌, ℕ, zero, suc, ◌+◌, ◌*◌, ◌≤◌, List, [], ◌∷◌, ◌++◌, length, map, refl, arith, Bool, true, false, if◌then◌else◌}
+use Rattle.std.proofs.Common.{◌≡◌, ℕ, zero, suc, ◌+◌, ◌*◌, ◌≤◌, [], ◌∷◌, length, refl, arith, Bool, true, false, if◌then◌else◌}
 use Rattle.std.specs.Prelude.{◌==◌}
 use Rattle.std.proofs.lemmas.Bool.{eqb-true}
 use Rattle.std.proofs.lemmas.List.{length-append, length-map}
@@ -7,7 +7,7 @@ use Rattle.std.proofs.lemmas.List.FromFn.{length-map-range_with_len}
 use Rattle.cert_lines.specs.declared.places.Place.{Place}
 use Rattle.cert_lines.specs.declared.places.Place.TheVariants.{Edition, Component, Interaction, TemperatureRoot, PressureRoot, Phase}
 use Rattle.cert_lines.specs.declared.places.Shape.{Shape}
-use Rattle.cert_lines.specs.Places.{places, edition_line, numbered, paired, pairs_of}
+use Rattle.cert_lines.specs.Places.{places, edition_line, paired, pairs_of}
 use Rattle.cert_format.specs.declared.heads.Head.{Head}
 use Rattle.cert_format.specs.Heads.{says, said_of, shape_of}
 
@@ -30,8 +30,16 @@ places_count : (s : Shape) (edition : ℕ) → s.n ≤ 4 → edition ≡ (if s.v
 unfolding places
 places_count s edition few e =
     rw (length-append, length-append, length-append, length-append, length-append, length-append)
-    (omega (arith, e, edition_count s.version, length-map-range_with_len Component 0 s.n, paired_count Interaction s.n few,
-    length-map-range_with_len TemperatureRoot 0 s.n, paired_count PressureRoot s.n few, length-map-range_with_len Phase 0 s.phases))
+    (omega (
+      arith,
+      e,
+      edition_count s.version,
+      length-map-range_with_len Component 0 s.n,
+      paired_count Interaction s.n few,
+      length-map-range_with_len TemperatureRoot 0 s.n,
+      paired_count PressureRoot s.n few,
+      length-map-range_with_len Phase 0 s.phases,
+    ))
 
 pub not_two : (v : ℕ) → (v ≡ 2 → ⊥) → (v == 2) ≡ false
 not_two v other = by_case (v == 2) refl

@@ -1,6 +1,6 @@
 -- The certificate of a lawful answer is that of a good one.
-use Rattle.std.proofs.Common.{◌≡◌, ℕ, zero, suc, ◌+◌, ◌*◌, ◌-◌, ◌<◌, ◌≤◌, List, [], ◌∷◌, length, map, take, refl, sym, ap, subst, ◌∙◌, arith, Bool, true, false, not, Option, Some, None, ℤ, int_eq}
-use Rattle.std.specs.Prelude.{◌==◌, ◌&&◌, if◌then◌else◌, is_some}
+use Rattle.std.proofs.Common.{◌≡◌, ℕ, zero, suc, ◌+◌, ◌*◌, ◌<◌, List, [], ◌∷◌, length, map, refl, sym, ap, subst, ◌∙◌, arith, Bool, true, not, Option, Some, None, ℤ, int_eq}
+use Rattle.std.specs.Prelude.{◌&&◌, if◌then◌else◌, is_some}
 use Rattle.std.proofs.lemmas.Bool.{eq-eqb}
 use Rattle.log_laws.specs.Between.{Ends}
 use Rattle.log_laws.specs.Interval.{ends_of}
@@ -8,30 +8,27 @@ use Rattle.log_laws.specs.Sums.{all_below}
 use Rattle.log_laws.specs.declared.iv.Iv.{Iv}
 use Rattle.log_laws.proofs.Exports.{all_below-from}
 use Rattle.case_types.specs.declared.answers.Answer.{Answer}
-use Rattle.case_types.specs.Arithmetic.Faults.{fault_of, first_below, or_else}
+use Rattle.case_types.specs.Arithmetic.Faults.{fault_of, first_below}
 use Rattle.case_types.specs.Arithmetic.Numbers.{numbers_of, enclosures_of}
 use Rattle.case_types.specs.Arithmetic.Splits.{split_up}
-use Rattle.case_types.specs.Arithmetic.Bounds.{energy_up, plane_at}
+use Rattle.case_types.specs.Arithmetic.Bounds.{energy_up}
 use Rattle.case_types.specs.Arithmetic.Tables.{ends_at}
-use Rattle.case_types.specs.Energy.Divisions.{AddsUp, Divides, division_of, parts_in}
+use Rattle.case_types.specs.Energy.Divisions.{AddsUp, division_of, parts_in}
 use Rattle.case_types.specs.Energy.Components.{feed}
 use Rattle.case_types.specs.Energy.Instances.{Enclosures, pair_place}
-use Rattle.case_types.specs.Energy.Printed.{enclosures_in, ends_in}
+use Rattle.case_types.specs.Energy.Printed.{ends_in}
 use Rattle.case_types.specs.Grid.Cells.{root_region}
-use Rattle.energy_surface.specs.Lawful.{IsLawful}
 use Rattle.energy_surface.specs.Outcomes.{IsAnswer}
 use Rattle.pr_params.specs.declared.numbers.Params.{Params}
 use Rattle.pr_params.proofs.Exports.{count_of}
 use Rattle.pr_surface.specs.PengRobinson.{surface_of}
-use Rattle.cert_format.specs.declared.heads.Head.{Head}
-use Rattle.cert_format.specs.Heads.{IsHead, text_with}
+use Rattle.cert_format.specs.Heads.{text_with}
 use Rattle.cert_format.specs.Writing.{head_of, last_letters}
 use Rattle.cert_format.proofs.Exports.{answers_write_trees}
 use Rattle.cert_letters.specs.Bounds.{leaf_test}
 use Rattle.cert_letters.specs.Lines.{IsGoodTree, tree_letters}
-use Rattle.cert_check.specs.Certificates.{IsGood}
 use Rattle.cert_check.specs.Converse.{AnswersAreAccepted}
-use Rattle.cert_check.specs.Tests.{are_same, states_pairs, are_good_params, adds_up_at, first_unbalanced, is_energy, is_gap, first_broken, passes, surface_in}
+use Rattle.cert_check.specs.Tests.{are_same, states_pairs, are_good_params, adds_up_at, first_unbalanced, first_broken}
 use Rattle.cert_check.proofs.Converse.{good_is_accepted}
 
 -- ---- the printed pairs
@@ -58,12 +55,12 @@ good_params p a =
     let two : are_same (ends_of p.two) e.root_two ≡ true = same_pair (ends_of p.two) e.root_two (ap (λ (x : Enclosures). x.root_two) printed) in
     let log_e : are_same (ends_of p.e) e.log_e ≡ true = same_pair (ends_of p.e) e.log_e (ap (λ (x : Enclosures). x.log_e) printed) in
     let ts = all_below-from p.case.n (λ i. are_same (ends_at (map ends_of p.t) i) (ends_at e.temperature_roots i))
-        (λ i l. same_pair (ends_at (map ends_of p.t) i) (ends_at e.temperature_roots i)
-        (first_ends p.case.n i p.t l ∙ ap (λ (x : Enclosures). ends_at x.temperature_roots i) printed)) in
+    (λ i l. same_pair (ends_at (map ends_of p.t) i) (ends_at e.temperature_roots i)
+    (first_ends p.case.n i p.t l ∙ ap (λ (x : Enclosures). ends_at x.temperature_roots i) printed)) in
     let qs = all_below-from p.case.n (λ j. all_below j (λ i. are_same (ends_at (map ends_of p.q) (pair_place i j)) (ends_at e.pressure_roots (pair_place i j))))
-        (λ j m. all_below-from j (λ i. are_same (ends_at (map ends_of p.q) (pair_place i j)) (ends_at e.pressure_roots (pair_place i j)))
-        (λ i l. same_pair (ends_at (map ends_of p.q) (pair_place i j)) (ends_at e.pressure_roots (pair_place i j))
-        (ap (λ (x : Enclosures). ends_at x.pressure_roots (pair_place i j)) printed))) in
+    (λ j m. all_below-from j (λ i. are_same (ends_at (map ends_of p.q) (pair_place i j)) (ends_at e.pressure_roots (pair_place i j)))
+    (λ i l. same_pair (ends_at (map ends_of p.q) (pair_place i j)) (ends_at e.pressure_roots (pair_place i j))
+    (ap (λ (x : Enclosures). ends_at x.pressure_roots (pair_place i j)) printed))) in
     both (not (is_some (fault_of p.case))) (states_pairs (head_of p a).params e) (rw p.accepted refl)
     (all_four (are_same (ends_of p.two) e.root_two) (are_same (ends_of p.e) e.log_e)
     (all_below p.case.n (λ i. are_same (ends_at (map ends_of p.t) i) (ends_at e.temperature_roots i)))
@@ -90,8 +87,12 @@ unfolding first_broken
 passes_tests p tol budget a h =
     let c = p.case in
     let up : a.u ≡ split_up c.n (energy_up (numbers_of c)) a.split = subst (λ (n : ℕ). a.u ≡ split_up n (energy_up (numbers_of c)) a.split) h.components h.upper in
-    rw (good_params p a, balanced p a h.divides.adds_up, same_number a.u (split_up c.n (energy_up (numbers_of c)) a.split) up,
-    same_number a.gap _ h.gap) refl
+    rw (
+      good_params p a,
+      balanced p a h.divides.adds_up,
+      same_number a.u (split_up c.n (energy_up (numbers_of c)) a.split) up,
+      same_number a.gap _ h.gap,
+    ) refl
 
 pub answers_are_accepted : AnswersAreAccepted
 answers_are_accepted p tol budget a few lawful head sized v judged =
@@ -103,7 +104,7 @@ answers_are_accepted p tol budget a few lawful head sized v judged =
     let letters = answers_write_trees s c tol budget a (omega (arith, some, count)) (omega (arith, most, count)) lawful in
     let t = letters.written.tree in
     let good : IsGoodTree c.n (leaf_test s a.plane.lam a.low) t (root_region c.n) =
-        subst (λ (n : ℕ). IsGoodTree n (leaf_test s a.plane.lam a.low) t (root_region n)) count letters.written.good in
+    subst (λ (n : ℕ). IsGoodTree n (leaf_test s a.plane.lam a.low) t (root_region n)) count letters.written.good in
     let written : last_letters a.work ≡ tree_letters c.n t = subst (λ (n : ℕ). last_letters a.work ≡ tree_letters n t) count letters.written.written in
     good_is_accepted _ (head_of p a) sized (record {
       tree = t;

@@ -8,7 +8,6 @@ use Rattle.case_types.specs.declared.cases.Case.{Case}
 use Rattle.case_types.specs.Arithmetic.Numbers.{enclosures_of}
 use Rattle.case_types.specs.Arithmetic.Tables.{ends_at, no_ends}
 use Rattle.case_types.specs.Energy.Instances.{Enclosures, pair_place}
-use Rattle.case_types.specs.Energy.Printed.{ends_in}
 use Rattle.pr_params.specs.declared.numbers.Params.{Params}
 use Rattle.cert_format.specs.declared.heads.CertParams.{CertParams}
 use Rattle.log_laws.specs.Sums.{all_below}

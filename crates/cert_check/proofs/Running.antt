@@ -11,7 +11,8 @@ use Rattle.cert_format.specs.declared.verdicts.Verdict.{Verdict}
 use Rattle.cert_format.specs.declared.verdicts.Verdict.TheVariants.{Accepted, BadParams, BadBalance, BadEnergy, BadGap, BadLeaf, Refused, ReadFault, Memory}
 use Rattle.cert_check.specs.Checking.{State, InHead, Gives, Takes}
 use Rattle.cert_check.specs.Judging.{IsVerdict}
-use Rattle.cert_check.specs.Streams.{limit, past_limit, IsPastLimit, IsStreamVerdict, IsTextVerdict, Judges}
+use Rattle.cert_check.proofs.OfTexts.{not_too_long}
+use Rattle.cert_check.specs.Streams.{limit, past_limit, IsStreamVerdict, IsTextVerdict, Judges}
 
 -- ---- one byte of a list
 -- what is left to judge at this byte is what was at the first
@@ -87,11 +88,11 @@ take_past (suc limit) (x ∷ seen) rest short =
 settled : (v : Verdict) (seen rest : List ℕ) → length seen ≤ limit → ((bytes : List ℕ) → IsVerdict (seen ++ bytes) v) → past_limit v ≡ v → IsStreamVerdict (seen ++ rest) v
 settled v seen rest short gives same = elim (cases_lt limit (length (seen ++ rest))) [
   | inl long ↦ inr (record {
-      long = long;
-      within = v;
-      is_within = subst (λ (x : List ℕ). IsVerdict x v) (sym (take_past limit seen rest short)) (gives (take (limit - length seen) rest));
-      is = sym same;
-    })
+    long = long;
+    within = v;
+    is_within = subst (λ (x : List ℕ). IsVerdict x v) (sym (take_past limit seen rest short)) (gives (take (limit - length seen) rest));
+    is = sym same;
+  })
   | inr whole ↦ inl (whole, gives rest)
 ]
 
@@ -102,7 +103,7 @@ found taken left left' after s t v piece far next short step bytes told =
     let whole = ahead-step far.seen piece left left' after far.next next in
     let k = splits bytes seen left after whole told in
     let gives : (rest : List ℕ) → IsVerdict (seen ++ rest) v =
-        λ rest. subst (λ (x : List ℕ). IsVerdict x v) (sym (append_assoc far.seen piece rest)) (far.gives (piece ++ rest) v (step.0 rest)) in
+    λ rest. subst (λ (x : List ℕ). IsVerdict x v) (sym (append_assoc far.seen piece rest)) (far.gives (piece ++ rest) v (step.0 rest)) in
     subst (λ (x : List ℕ). IsStreamVerdict x v) (sym k.parts) (settled v seen k.rest (omega (arith, length-append far.seen piece, far.counted, short)) gives step.1)
 
 all_seen : (left left' : Option (List ℕ)) (seen bytes : List ℕ) → left ≡ ahead seen left' → IsSpent left' → left ≡ Some bytes → bytes ≡ seen
@@ -163,6 +164,10 @@ takes_exactly count taken left left' after s piece far next exact = record {
 }
 
 -- ---- a whole text
+pub whole_text : (s after : State) (text : List ℕ) (v : Verdict) → s ≡ InHead blank [] → Takes s text after (Some v) → IsVerdict text v
+whole_text s after text v e step =
+    subst (λ (x : List ℕ). IsVerdict x v) (append-nil text) (subst (λ (x : State). Gives x (text ++ []) v) e (step.0 []))
+
 -- all that a source told was read
 pub all_read : (left left' : Option (List ℕ)) (text : List ℕ) (v : Verdict) → length text ≤ limit → left ≡ ahead text left' → IsSpent left' → IsVerdict text v
     → (bytes : List ℕ) → left ≡ Some bytes → IsTextVerdict bytes v
@@ -197,3 +202,66 @@ past_no_yes BadGap u gap e = cc
 past_no_yes (BadLeaf i) u gap e = cc
 past_no_yes ReadFault u gap e = cc
 past_no_yes Memory u gap e = cc
+
+one_more : (n m : ℕ) → n ≤ m → n ≤ m + 1
+one_more n m h = omega (arith, h)
+
+-- ---- what the answers of the stream say
+pub judges_found : (taken faults faults' : ℕ) (left left' after : Option (List ℕ)) (s t : State) (v : Verdict) (piece : List ℕ) → IsSoFar taken left left' s → left' ≡ ahead piece after
+    → taken + length piece ≤ limit → Takes s piece t (Some v) → faults' ≡ faults → Judges IsStreamVerdict left after faults faults' v
+judges_found taken faults faults' left left' after s t v piece far next short step same =
+    let whole = found_whole taken left left' s t v piece far step in
+    record {
+      told = found taken left left' after s t v piece far next short step;
+      ended = λ u gap e. absurd (no_yes v u gap step.1 e);
+      most = takes_more (limit + 1) taken left left' after s piece far next (one_more (taken + length piece) limit short);
+      long = λ e. absurd (not_too_long whole.0 v whole.1 e);
+      no_fault = same;
+    }
+
+pub judges_end : (taken faults faults' : ℕ) (left left' after : Option (List ℕ)) (s : State) (v : Verdict) → IsSoFar taken left left' s → IsSpent left' → after ≡ left'
+    → taken ≤ limit → Gives s [] v → faults' ≡ faults → Judges IsStreamVerdict left after faults faults' v
+judges_end taken faults faults' left left' after s v far spent stays short g same =
+    let whole = ends_whole taken left left' s v far g in
+    rw stays (record {
+      told = ends taken left left' s v far spent short g;
+      ended = λ u gap e. spent;
+      most = takes (limit + 1) taken left left' s far (one_more taken limit short);
+      long = λ e. absurd (not_too_long whole.0 v whole.1 e);
+      no_fault = same;
+    })
+
+exactly : (taken most : ℕ) (piece : List ℕ) → taken ≡ most → length piece ≡ 1 → taken + length piece ≡ most + 1
+exactly taken most piece full one = omega (arith, full, one)
+
+same_most : (taken most : ℕ) (piece : List ℕ) → taken ≡ most → length piece ≡ 1 → taken + length piece ≤ most + 1
+same_most taken most piece full one = omega (arith, full, one)
+
+pub judges_past : (taken faults faults' : ℕ) (left left' after : Option (List ℕ)) (s : State) (v : Verdict) (piece : List ℕ) → IsSoFar taken left left' s → left' ≡ ahead piece after
+    → taken ≡ limit → length piece ≡ 1 → Gives s [] v → faults' ≡ faults → Judges IsStreamVerdict left after faults faults' (past_limit v)
+judges_past taken faults faults' left left' after s v piece far next full one g same = record {
+  told = past taken left left' after s v piece far next (omega (arith, one)) full g;
+  ended = λ u gap e. absurd (past_no_yes v u gap e);
+  most = takes_more (limit + 1) taken left left' after s piece far next (same_most taken limit piece full one);
+  long = λ e. takes_exactly (limit + 1) taken left left' after s piece far next (exactly taken limit piece full one);
+  no_fault = same;
+}
+
+pub judges_text : (left left' : Option (List ℕ)) (text : List ℕ) (faults faults' : ℕ) (v : Verdict) → length text ≤ limit → left ≡ ahead text left' → IsSpent left' → IsVerdict text v → faults' ≡ faults
+    → Judges IsTextVerdict left left' faults faults' v
+judges_text left left' text faults faults' v short next spent is same = record {
+  told = all_read left left' text v short next spent is;
+  ended = λ u gap e. spent;
+  most = record { bytes = text; short = one_more (length text) limit short; taken = next };
+  long = λ e. absurd (not_too_long text v is e);
+  no_fault = same;
+}
+
+pub judges_too_long : (left left' : Option (List ℕ)) (faults faults' : ℕ) → TakesExactly (limit + 1) left left' → faults' ≡ faults → Judges IsTextVerdict left left' faults faults' (Refused TooLong)
+judges_too_long left left' faults faults' t same = record {
+  told = too_long left left' t.bytes t.counted t.taken;
+  ended = λ u gap e. absurd cc;
+  most = record { bytes = t.bytes; short = omega (arith, t.counted); taken = t.taken };
+  long = λ e. t;
+  no_fault = same;
+}

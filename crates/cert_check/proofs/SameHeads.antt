@@ -1,6 +1,6 @@
 -- Heads that say the same agree in every live number.
-use Rattle.std.proofs.Common.{◌≡◌, ℕ, zero, suc, ◌+◌, ◌<◌, ◌≤◌, List, [], ◌∷◌, ◌++◌, length, take, map, refl, sym, ap, subst, ◌∙◌, arith, inl, inr, ℤ, pos}
-use Rattle.std.specs.Prelude.{◌⊎◌, slice_index, slice_index_or}
+use Rattle.std.proofs.Common.{◌≡◌, ℕ, zero, suc, ◌+◌, ◌<◌, List, [], ◌∷◌, length, take, map, refl, sym, ap, ◌∙◌, arith, inl, inr, ℤ, pos}
+use Rattle.std.specs.Prelude.{slice_index, slice_index_or}
 use Rattle.std.proofs.lemmas.Bool.{cases_lt}
 use Rattle.log_laws.specs.Between.{Ends}
 use Rattle.log_laws.specs.Interval.{ends_of}
@@ -10,7 +10,7 @@ use Rattle.case_types.specs.declared.cases.Edition.TheVariants.{Y1976, Y1978}
 use Rattle.case_types.specs.declared.phases.Phase.{Phase}
 use Rattle.case_types.specs.Arithmetic.Bounds.{potential}
 use Rattle.case_types.specs.Arithmetic.Tables.{ends_at}
-use Rattle.case_types.specs.Energy.Components.{critical_temperature, critical_pressure, acentric_factor, interaction, feed}
+use Rattle.case_types.specs.Energy.Components.{critical_temperature, critical_pressure, interaction, feed}
 use Rattle.case_types.specs.Energy.Instances.{pair_place}
 use Rattle.cert_format.specs.declared.heads.Head.{Head}
 use Rattle.cert_format.specs.Heads.{says, said_of, shape_of, saying, phase_said, edition_number, IsHead, IsVersionOf}
@@ -99,11 +99,11 @@ by_order : (c d : Case) → c.n ≡ d.n → ((i j : ℕ) → i < j → j < c.n �
 by_order c d n e i j l m = elim (cases_lt i j) [
   | inl less ↦ e i j less m
   | inr more ↦ elim (cases_lt j i) [
-      | inl less ↦ interaction_turned c i j l m ∙ e j i less l ∙ sym (interaction_turned d i j (omega (arith, l, n)) (omega (arith, m, n)))
-      | inr least ↦
-          let same : j ≡ i = omega (arith, more, least) in
-          rw same (interaction_own c i l ∙ sym (interaction_own d i (omega (arith, l, n))))
-    ]
+    | inl less ↦ interaction_turned c i j l m ∙ e j i less l ∙ sym (interaction_turned d i j (omega (arith, l, n)) (omega (arith, m, n)))
+    | inr least ↦
+        let same : j ≡ i = omega (arith, more, least) in
+        rw same (interaction_own c i l ∙ sym (interaction_own d i (omega (arith, l, n))))
+  ]
 ]
 
 edition_alike : (h g : Head) → IsHead h → IsHead g → h.version ≡ g.version → AllAlike h g (shape_of h) → h.params.case.edition ≡ g.params.case.edition
@@ -122,7 +122,7 @@ case_alike h g is that shape a =
     let d = g.params.case in
     let n : c.n ≡ d.n = ap (λ (s : Shape). s.n) shape in
     let z : (i : ℕ) → i < c.n → feed c i ≡ feed d i =
-        λ i l. whole (feed c i) (feed d i) (ap (λ (s : Said). number_in s 3) (a.components i l)) in
+    λ i l. whole (feed c i) (feed d i) (ap (λ (s : Said). number_in s 3) (a.components i l)) in
     record {
       count = n;
       temperature = whole c.t d.t (ap (λ (s : Said). number_in s 0) a.temperature);
@@ -143,7 +143,7 @@ heads_same h g is that shape said =
     let c = h.params.case in
     let n : c.n ≡ g.params.case.n = ap (λ (s : Shape). s.n) shape in
     let pair : (i : ℕ) (x y : Said) (v w : Ends) → x ≡ y → number_in x i ≡ v.lo → number_in x (i + 1) ≡ v.hi → number_in y i ≡ w.lo → number_in y (i + 1) ≡ w.hi → v ≡ w =
-        λ i x y v w e a b c d. same_ends v w (sym a ∙ number i x y e ∙ c) (sym b ∙ number (i + 1) x y e ∙ d) in
+    λ i x y v w e a b c d. same_ends v w (sym a ∙ number i x y e ∙ c) (sym b ∙ number (i + 1) x y e ∙ d) in
     record {
       case = case_alike h g is that shape a;
       two = pair 0 _ _ (ends_of h.params.two) (ends_of g.params.two) a.two refl refl refl refl;

@@ -1,5 +1,5 @@
 -- Planes with the same potentials of n components have the same lows over a cell, and pass the same leaves.
-use Rattle.std.proofs.Common.{◌≡◌, ℕ, ◌<◌, ◌≤◌, List, refl, Some, ℤ, pos, ◌*ℤ◌, ap}
+use Rattle.std.proofs.Common.{◌≡◌, ◌≤◌, List, refl, Some, ℤ, pos, ◌*ℤ◌, ap}
 use Rattle.log_laws.specs.Interval.{ends}
 use Rattle.log_laws.specs.Whole.{floor_over, ceil_over}
 use Rattle.log_laws.proofs.Exports.{sum-same, all_below-same}
@@ -20,12 +20,14 @@ unfolding plane_form
 plane_form-same p lam mu r some s =
     let n = p.count in
     let sum : plane_sum n (potential lam) (centre n r) ≡ plane_sum n (potential mu) (centre n r) =
-        sum-same n (λ i. potential lam i *ℤ pos (centre n r i)) (λ i. potential mu i *ℤ pos (centre n r i)) (λ i l. rw (s i l) refl) in
-    rw (all_below-same n (has_small_potential lam) (has_small_potential mu) (λ i l. rw (s i l) refl),
-    form-same n (let t = plane_sum n (potential lam) (centre n r) in capped (floor_over t one) (ceil_over t one))
-    (let t = plane_sum n (potential mu) (centre n r) in capped (floor_over t one) (ceil_over t one))
-    (λ i. Some (ends (potential lam i) (potential lam i))) (λ i. Some (ends (potential mu i) (potential mu i)))
-    some (ap (λ t. capped (floor_over t one) (ceil_over t one)) sum) (λ i l. rw (s i l) refl) (Some no_ends)) refl
+    sum-same n (λ i. potential lam i *ℤ pos (centre n r i)) (λ i. potential mu i *ℤ pos (centre n r i)) (λ i l. rw (s i l) refl) in
+    rw (
+      all_below-same n (has_small_potential lam) (has_small_potential mu) (λ i l. rw (s i l) refl),
+      form-same n (let t = plane_sum n (potential lam) (centre n r) in capped (floor_over t one) (ceil_over t one))
+          (let t = plane_sum n (potential mu) (centre n r) in capped (floor_over t one) (ceil_over t one))
+          (λ i. Some (ends (potential lam i) (potential lam i))) (λ i. Some (ends (potential mu i) (potential mu i)))
+          some (ap (λ t. capped (floor_over t one) (ceil_over t one)) sum) (λ i l. rw (s i l) refl) (Some no_ends),
+    ) refl
 
 slope_low-same : (p : Numbers) (lam mu : List ℤ) (r : Region) → 1 ≤ p.count → ArePotentialsSame p.count lam mu → slope_low p lam r ≡ slope_low p mu r
 unfolding slope_low

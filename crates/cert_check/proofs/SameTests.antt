@@ -1,39 +1,38 @@
 -- Heads that say the same pass the same tests.
-use Rattle.std.proofs.Common.{◌≡◌, ℕ, ◌+◌, ◌*◌, ◌-◌, ◌<◌, ◌≤◌, List, map, refl, sym, subst, ◌∙◌, arith, Bool, Option, Some, None, ℤ, ◌-ℤ◌, ap, int_eq}
-use Rattle.std.specs.Prelude.{◌==◌, ◌&&◌, if◌then◌else◌, slice_index}
+use Rattle.std.proofs.Common.{◌≡◌, ℕ, ◌+◌, map, refl, sym, subst, ◌∙◌, arith, Some, None, ap}
+use Rattle.std.specs.Prelude.{if◌then◌else◌}
 use Rattle.log_laws.specs.Between.{Ends}
 use Rattle.log_laws.specs.Interval.{ends_of}
 use Rattle.log_laws.specs.Sums.{all_below}
 use Rattle.log_laws.proofs.Exports.{all_below-same}
-use Rattle.case_types.specs.Arithmetic.Bounds.{energy_up, plane_at}
-use Rattle.case_types.specs.Arithmetic.Faults.{first_below}
-use Rattle.case_types.specs.Arithmetic.Numbers.{Numbers, numbers_of, enclosures_of}
+use Rattle.case_types.specs.Arithmetic.Bounds.{energy_up}
+use Rattle.case_types.specs.Arithmetic.Numbers.{numbers_of, enclosures_of}
 use Rattle.case_types.specs.Arithmetic.Same.{ArePotentialsSame}
-use Rattle.case_types.specs.Arithmetic.Splits.{split_up, phases_up}
 use Rattle.case_types.specs.Arithmetic.Tables.{ends_at}
-use Rattle.case_types.specs.Energy.Components.{feed}
-use Rattle.case_types.specs.Energy.Divisions.{parts_in, state_of}
 use Rattle.case_types.specs.Energy.Instances.{Enclosures, pair_place}
 use Rattle.case_types.specs.Grid.Cells.{Region, Mark}
 use Rattle.case_types.proofs.Exports.{first_below-same, enclosures-same, numbers-same, fault-same, plane_at-same, phases_up-same, parts_in-same}
 use Rattle.cert_format.specs.declared.heads.Head.{Head}
-use Rattle.cert_letters.specs.Bounds.{leaf_test}
 use Rattle.pr_params.proofs.Exports.{count_of}
-use Rattle.pr_surface.specs.PengRobinson.{surface_of}
 use Rattle.cert_check.specs.Tests.{are_same, states_pairs, are_good_params, adds_up_at, first_unbalanced, is_energy, is_gap, first_broken, passes}
 use Rattle.cert_check.proofs.SameHeads.{AreHeadsSame}
 use Rattle.cert_check.proofs.SameLows.{leaf_test-same}
 
 pairs-same : (h g : Head) (e : Enclosures) → AreHeadsSame h g → states_pairs h.params e ≡ states_pairs g.params e
 pairs-same h g e s =
-    rw (ap (λ (v : Ends). v.lo) s.two, ap (λ (v : Ends). v.hi) s.two, ap (λ (v : Ends). v.lo) s.log_e, ap (λ (v : Ends). v.hi) s.log_e,
-    all_below-same h.params.case.n (λ i. are_same (ends_at (map ends_of h.params.t) i) (ends_at e.temperature_roots i))
-    (λ i. are_same (ends_at (map ends_of g.params.t) i) (ends_at e.temperature_roots i)) (λ i l. rw (s.temperature_roots i l) refl),
-    all_below-same h.params.case.n (λ j. all_below j (λ i. are_same (ends_at (map ends_of h.params.q) (pair_place i j)) (ends_at e.pressure_roots (pair_place i j))))
-    (λ j. all_below j (λ i. are_same (ends_at (map ends_of g.params.q) (pair_place i j)) (ends_at e.pressure_roots (pair_place i j))))
-    (λ j m. all_below-same j (λ i. are_same (ends_at (map ends_of h.params.q) (pair_place i j)) (ends_at e.pressure_roots (pair_place i j)))
-    (λ i. are_same (ends_at (map ends_of g.params.q) (pair_place i j)) (ends_at e.pressure_roots (pair_place i j))) (λ i l. rw (s.pressure_roots i j l m) refl)),
-    s.case.count) refl
+    rw (
+      ap (λ (v : Ends). v.lo) s.two,
+      ap (λ (v : Ends). v.hi) s.two,
+      ap (λ (v : Ends). v.lo) s.log_e,
+      ap (λ (v : Ends). v.hi) s.log_e,
+      all_below-same h.params.case.n (λ i. are_same (ends_at (map ends_of h.params.t) i) (ends_at e.temperature_roots i))
+          (λ i. are_same (ends_at (map ends_of g.params.t) i) (ends_at e.temperature_roots i)) (λ i l. rw (s.temperature_roots i l) refl),
+      all_below-same h.params.case.n (λ j. all_below j (λ i. are_same (ends_at (map ends_of h.params.q) (pair_place i j)) (ends_at e.pressure_roots (pair_place i j))))
+          (λ j. all_below j (λ i. are_same (ends_at (map ends_of g.params.q) (pair_place i j)) (ends_at e.pressure_roots (pair_place i j))))
+          (λ j m. all_below-same j (λ i. are_same (ends_at (map ends_of h.params.q) (pair_place i j)) (ends_at e.pressure_roots (pair_place i j)))
+          (λ i. are_same (ends_at (map ends_of g.params.q) (pair_place i j)) (ends_at e.pressure_roots (pair_place i j))) (λ i l. rw (s.pressure_roots i j l m) refl)),
+      s.case.count,
+    ) refl
 
 params-same : (h g : Head) → AreHeadsSame h g → are_good_params h.params ≡ are_good_params g.params
 unfolding are_good_params
@@ -43,20 +42,33 @@ params-same h g s =
 unbalanced-same : (h g : Head) → AreHeadsSame h g → first_unbalanced h ≡ first_unbalanced g
 unfolding first_unbalanced
 unbalanced-same h g s =
-    rw (first_below-same h.params.case.n (λ i. if adds_up_at h i then None else Some (i + 1)) (λ i. if adds_up_at g i then None else Some (i + 1))
-    (λ i l. rw (s.case.total, parts_in-same h.params.case.n h.split.phases.items g.split.phases.items i l s.phases, s.case.z i l, s.sum) refl),
-    s.case.count) refl
+    rw (
+      first_below-same h.params.case.n (λ i. if adds_up_at h i then None else Some (i + 1)) (λ i. if adds_up_at g i then None else Some (i + 1))
+          (λ i l. rw (s.case.total, parts_in-same h.params.case.n h.split.phases.items g.split.phases.items i l s.phases, s.case.z i l, s.sum) refl),
+      s.case.count,
+    ) refl
 
 energy-same : (h g : Head) → AreHeadsSame h g → is_energy h ≡ is_energy g
 energy-same h g s =
     let up = energy_up (numbers_of g.params.case) in
-    rw (numbers-same h.params.case g.params.case s.case,
-    phases_up-same h.params.case.n up h.split.sum h.split.phases.items g.split.phases.items s.phases, s.sum, s.u, s.case.count) refl
+    rw (
+      numbers-same h.params.case g.params.case s.case,
+      phases_up-same h.params.case.n up h.split.sum h.split.phases.items g.split.phases.items s.phases,
+      s.sum,
+      s.u,
+      s.case.count,
+    ) refl
 
 gap-same : (h g : Head) → AreHeadsSame h g → is_gap h ≡ is_gap g
 gap-same h g s =
-    rw (plane_at-same h.params.case.n h.plane.lam g.plane.lam h.params.case.z g.params.case.z h.params.case.total s.plane s.case.z,
-    s.case.total, s.case.count, s.u, s.low, s.gap) refl
+    rw (
+      plane_at-same h.params.case.n h.plane.lam g.plane.lam h.params.case.z g.params.case.z h.params.case.total s.plane s.case.z,
+      s.case.total,
+      s.case.count,
+      s.u,
+      s.low,
+      s.gap,
+    ) refl
 
 pub broken-same : (h g : Head) → AreHeadsSame h g → first_broken h ≡ first_broken g
 unfolding first_broken

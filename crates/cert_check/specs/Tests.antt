@@ -1,5 +1,5 @@
 -- What a certificate is tested for beside its form, in the order of the tests.
-use Rattle.std.specs.Prelude.{ℕ, ◌+◌, ◌*◌, ◌-◌, ◌==◌, ◌&&◌, ◌-ℤ◌, map, Bool, not, is_some, if◌then◌else◌, Option, Some, None, ℤ}
+use Rattle.std.specs.Prelude.{ℕ, ◌+◌, ◌*◌, ◌==◌, ◌&&◌, ◌-ℤ◌, map, Bool, not, is_some, if◌then◌else◌, Option, Some, None}
 use Rattle.std.specs.Ordering.{int_eq}
 use Rattle.std.specs.Option.{option_map}
 use Rattle.log_laws.specs.Between.{Ends}

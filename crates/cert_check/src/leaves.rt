@@ -34,7 +34,7 @@ pub fn leaf_passes<S: Surface>(
 }
 
 /// The plain low of the cell.
-pub fn low_plain<S: Surface>(surface: &S, plane: &Plane, cell: &Cell) -> i128
+fn low_plain<S: Surface>(surface: &S, plane: &Plane, cell: &Cell) -> i128
     requires { IsFalse (misses (S.bounds surface.now).count (region_of cell.now)) }
     ensures { result ≡ plain_low (S.bounds surface.now) plane.now.lam (region_of cell.now) }
 {
@@ -65,7 +65,7 @@ fn above(energy: i128, plane: i128) -> i128
 }
 
 /// The slope low of the cell, where there is one.
-pub fn low_sloped<S: Surface>(surface: &S, plane: &Plane, cell: &Cell) -> Option<i128>
+fn low_sloped<S: Surface>(surface: &S, plane: &Plane, cell: &Cell) -> Option<i128>
     requires { IsFalse (misses (S.bounds surface.now).count (region_of cell.now)) }
     ensures { result ≡ slope_low (S.bounds surface.now) plane.now.lam (region_of cell.now) }
 {

@@ -16,6 +16,8 @@ mod line_count;
 mod streams;
 mod tail;
 mod testing;
+#[cfg(test)]
+mod tests;
 
 pub use broken::Broken;
 pub use laws::{accepted_is_good, answers_are_accepted, good_certifies, good_is_accepted};

@@ -1,6 +1,6 @@
 //! Verdicts over a source of bytes.
 
-ghost use Rattle.std.specs.Prelude.{◌≡◌, ◌≢◌, true};
+ghost use Rattle.std.specs.Prelude.{◌≡◌, ◌≢◌, true, Some, None};
 ghost use Rattle.cert_check.specs.Judging.{IsVerdict};
 ghost use Rattle.cert_check.specs.Streams.{AnswersStream, AnswersText, past_limit, JudgesOrFails};
 
@@ -63,6 +63,7 @@ pub fn check_stream<S: Source>(source: &mut S) -> Verdict
 /// The verdict on a stream, or none where the source failed.
 fn judged<S: Source>(source: &mut S) -> Option<Verdict>
     ensures answers { JudgesOrFails (S.left source.old) (S.left source.new) (S.faults source.old) (S.faults source.new) result }
+    ensures no_fault { result ≢ Some Verdict.ReadFault }
     ensures last_take { result ≡ None → S.failed source.new ≡ true }
     ensures last_fault { S.faults source.new ≢ S.faults source.old → S.failed source.new ≡ true }
 {

@@ -13,9 +13,9 @@ ghost use Rattle.cert_format.specs.Heads.{IsHead};
 ghost use Rattle.cert_check.specs.Tests.{first_broken, first_unbalanced, adds_up_at, is_energy, is_gap, are_good_params, are_same, states_pairs};
 
 use crate::broken::Broken;
-use cert_format::{CertParams, Head};
 use box_search::plane_at_feed;
 use case_types::Split;
+use cert_format::{CertParams, Head};
 use log_laws::Iv;
 use pr_params::{Params, params};
 use pr_surface::split_energy;

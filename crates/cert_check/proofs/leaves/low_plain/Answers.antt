@@ -14,6 +14,6 @@ returns g c =
     let at : x ≡ box_of_region s.count r = rw (← count) (box_same c.cell_box-x.result.a c.cell_box-x.result.b (box_of_region c.count-n.result r) c.cell_box-x.ensures.lo c.cell_box-x.ensures.hi) in
     let plane : c.plane_hi.result ≡ plane_high s.count c.args.plane.now.lam x = rw count at c.plane_hi.ensures.value in
     let value : c.above.result ≡ c.energy_over.result -ℤ c.plane_hi.result =
-        rw (back c.energy_over.result (omega (arith, c.energy_over.ensures.small)), back c.plane_hi.result (omega (arith, c.plane_hi.ensures.small))) at c.above.ensures.value in
+    rw (back c.energy_over.result (omega (arith, c.energy_over.ensures.small)), back c.plane_hi.result (omega (arith, c.plane_hi.ensures.small))) at c.above.ensures.value in
     back c.above.result (omega (arith, c.above.ensures.small)) ∙ value
     ∙ low_is s.count s.low c.args.plane.now.lam r x c.energy_over.result c.plane_hi.result at c.energy_over.ensures.value plane

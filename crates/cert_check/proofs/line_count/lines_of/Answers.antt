@@ -1,4 +1,4 @@
-use Rattle.std.proofs.Common.{◌≡◌, ℕ, if◌then◌else◌, refl, sym, arith}
+use Rattle.std.proofs.Common.{◌≡◌, if◌then◌else◌, refl}
 use Rattle.std.specs.Prelude.{◌==◌}
 use Rattle.cert_check.proofs.LineCount.{lines_count, not_two}
 use Rattle.cert_check.proofs.line_count.lines_of.Goals.{then-head-eq2, else-head-eq2}

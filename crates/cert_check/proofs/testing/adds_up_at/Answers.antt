@@ -1,4 +1,4 @@
-use Rattle.std.proofs.Common.{ℕ, ◌≡◌, ◌*◌, ◌^◌, ◌<◌, ◌≤◌, slice_index, arith}
+use Rattle.std.proofs.Common.{ℕ, ◌*◌, ◌^◌, ◌<◌, ◌≤◌, slice_index, arith}
 use Rattle.std.proofs.Math.Nat.{mul-le-mul}
 use Rattle.log_laws.proofs.Exports.{le-sum_below}
 use Rattle.cert_check.proofs.testing.adds_up_at.Goals as goal

@@ -1,4 +1,4 @@
-use Rattle.std.proofs.Common.{◌≡◌, ◌+◌, Some, None, sym, ◌∙◌, arith, refl}
+use Rattle.std.proofs.Common.{◌≡◌, ◌+◌, sym, ◌∙◌, arith, refl}
 use Rattle.cert_check.specs.Tests.{first_unbalanced}
 use Rattle.cert_check.proofs.Balances.{unbalanced_at, first_more, first_found, first_zero}
 use Rattle.cert_check.proofs.testing.first_unbalanced.Goals as goal

@@ -1,5 +1,5 @@
 use Rattle.cert_check.proofs.Gaps.{gap_read, gap_small}
-use Rattle.std.proofs.Common.{arith, ◌∙◌, refl}
+use Rattle.std.proofs.Common.{◌∙◌, refl}
 use Rattle.cert_check.proofs.testing.gap_of.Goals as goal
 
 pub returns-clause-value : goal.returns-clause-value

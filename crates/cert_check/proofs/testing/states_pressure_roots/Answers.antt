@@ -1,4 +1,4 @@
-use Rattle.std.proofs.Common.{◌≡◌, sym, ◌∙◌, arith, refl}
+use Rattle.std.proofs.Common.{◌≡◌, sym, ◌∙◌, arith}
 use Rattle.log_laws.proofs.Exports.{all_below-more, all_below-fails}
 use Rattle.cert_check.proofs.Pairs.{are_stated_pressures}
 use Rattle.cert_check.proofs.testing.states_pressure_roots.Goals as goal

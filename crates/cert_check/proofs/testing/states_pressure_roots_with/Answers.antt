@@ -1,6 +1,5 @@
-use Rattle.std.proofs.Common.{◌≡◌, ◌≤◌, ap, sym, ◌∙◌, arith, length, refl, rules}
+use Rattle.std.proofs.Common.{◌≡◌, ◌≤◌, sym, ◌∙◌, arith, length, refl, rules}
 use Rattle.log_laws.proofs.Exports.{all_below-more, all_below-fails}
-use Rattle.case_types.specs.Energy.Instances.{pair_place}
 use Rattle.cert_check.proofs.Pairs.{is_stated_pressure, pressure_same}
 use Rattle.cert_check.proofs.testing.states_pressure_roots_with.Goals as goal
 use Rattle.cert_check.proofs.testing.states_pressure_roots_with.Goals.{After-are_same}

@@ -1,7 +1,5 @@
-use Rattle.std.proofs.Common.{◌≡◌, ◌≤◌, ap, sym, ◌∙◌, arith, length, refl, rules}
-use Rattle.log_laws.specs.Interval.{ends_of}
+use Rattle.std.proofs.Common.{◌≡◌, ◌≤◌, sym, ◌∙◌, arith, length, refl, rules}
 use Rattle.log_laws.proofs.Exports.{all_below-more, all_below-fails}
-use Rattle.cert_check.specs.Tests.{are_same}
 use Rattle.cert_check.proofs.Pairs.{is_stated_temperature, temperature_same}
 use Rattle.cert_check.proofs.testing.states_temperature_roots.Goals as goal
 use Rattle.cert_check.proofs.testing.states_temperature_roots.Goals.{After-are_same}

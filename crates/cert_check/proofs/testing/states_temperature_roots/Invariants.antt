@@ -1,4 +1,4 @@
-use Rattle.std.proofs.Common.{◌≡◌, true, map}
+use Rattle.std.proofs.Common.{◌≡◌, true}
 use Rattle.log_laws.specs.Sums.{all_below}
 use Rattle.cert_check.proofs.Pairs.{is_stated_temperature}
 use Rattle.cert_check.proofs.testing.states_temperature_roots.Given as goal

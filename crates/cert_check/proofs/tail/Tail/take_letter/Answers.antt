@@ -1,8 +1,8 @@
-use Rattle.std.proofs.Common.{◌≡◌, ◌∙◌, refl, sym, ap, subst, arith}
+use Rattle.std.proofs.Common.{◌∙◌, refl, sym, ap, arith}
 use Rattle.case_types.specs.Grid.Cells.{region_of}
-use Rattle.cert_letters.specs.Readings.{answer_of, is_whole, told}
+use Rattle.cert_letters.specs.Readings.{answer_of}
 use Rattle.cert_letters.specs.Steps.{mark_of}
-use Rattle.cert_check.specs.Checking.{IsBegun, place_in}
+use Rattle.cert_check.specs.Checking.{place_in}
 use Rattle.cert_check.proofs.LetterSteps.{closes, goes_on, inner_at, leaf_at, leaf_fails, bad, left_stays}
 use Rattle.cert_check.proofs.tail.Tail.take_letter.Goals as goal
 

@@ -1,0 +1,3 @@
+-- The one door: what the proofs of crates above may cite.
+pub use Rattle.cert_check.proofs.Accepted.{accepted_is_good}
+pub use Rattle.cert_check.proofs.Certifies.{good_certifies}
