@@ -15,7 +15,7 @@ use Rattle.cert_format.specs.declared.verdicts.Verdict.TheVariants.{Accepted, Ba
 use Rattle.cert_format.specs.Heads.{said_of}
 use Rattle.cert_check.specs.declared.broken.Broken.{Broken}
 use Rattle.cert_check.specs.declared.broken.Broken.TheVariants as broken
-use Rattle.cert_check.specs.Streams.{past_limit}
+use Rattle.cert_check.specs.Streams.{past_limit, IsOnText}
 use Rattle.cert_check.specs.Tests.{first_broken, passes}
 use Rattle.cert_check.specs.Judging.{verdict_of, verdict_behind_end, verdict_at_end, verdict_behind_letters, verdict_after, verdict_behind_head, IsVerdictAfter, IsVerdict}
 
@@ -125,3 +125,21 @@ past_is Memory is e = cc
 
 pub past_no_read_fault : (text : List ℕ) (v : Verdict) → IsVerdict text v → past_limit v ≡ ReadFault → ⊥
 past_no_read_fault text v is e = past_is v (of_text text v is) e
+
+-- a verdict on a text tells of no fault of the source and no want of memory, and neither does what it turns to past the limit
+is_on_text : (v : Verdict) → can_be v ≡ true → IsOnText v × IsOnText (past_limit v)
+is_on_text (Accepted u gap) e = (tt, tt)
+is_on_text BadParams e = (tt, tt)
+is_on_text (BadBalance i) e = (tt, tt)
+is_on_text BadEnergy e = (tt, tt)
+is_on_text BadGap e = (tt, tt)
+is_on_text (BadLeaf i) e = (tt, tt)
+is_on_text (Refused f) e = (tt, tt)
+is_on_text ReadFault e = absurd cc
+is_on_text Memory e = absurd cc
+
+pub on_text : (text : List ℕ) (v : Verdict) → IsVerdict text v → IsOnText v
+on_text text v is = (is_on_text v (of_text text v is)).0
+
+pub past_on_text : (text : List ℕ) (v : Verdict) → IsVerdict text v → IsOnText (past_limit v)
+past_on_text text v is = (is_on_text v (of_text text v is)).1

@@ -11,7 +11,7 @@ use Rattle.cert_format.specs.declared.verdicts.Verdict.{Verdict}
 use Rattle.cert_format.specs.declared.verdicts.Verdict.TheVariants.{Accepted, BadParams, BadBalance, BadEnergy, BadGap, BadLeaf, Refused, ReadFault, Memory}
 use Rattle.cert_check.specs.Checking.{State, InHead, Gives, Takes}
 use Rattle.cert_check.specs.Judging.{IsVerdict}
-use Rattle.cert_check.proofs.OfTexts.{not_too_long}
+use Rattle.cert_check.proofs.OfTexts.{not_too_long, on_text, past_on_text}
 use Rattle.cert_check.specs.Streams.{limit, past_limit, IsStreamVerdict, IsTextVerdict, Judges}
 
 -- ---- one byte of a list
@@ -212,6 +212,7 @@ pub judges_found : (taken faults faults' : ℕ) (left left' after : Option (List
 judges_found taken faults faults' left left' after s t v piece far next short step same =
     let whole = found_whole taken left left' s t v piece far step in
     record {
+      on_text = on_text whole.0 v whole.1;
       told = found taken left left' after s t v piece far next short step;
       ended = λ u gap e. absurd (no_yes v u gap step.1 e);
       most = takes_more (limit + 1) taken left left' after s piece far next (one_more (taken + length piece) limit short);
@@ -224,6 +225,7 @@ pub judges_end : (taken faults faults' : ℕ) (left left' after : Option (List �
 judges_end taken faults faults' left left' after s v far spent stays short g same =
     let whole = ends_whole taken left left' s v far g in
     rw stays (record {
+      on_text = on_text whole.0 v whole.1;
       told = ends taken left left' s v far spent short g;
       ended = λ u gap e. spent;
       most = takes (limit + 1) taken left left' s far (one_more taken limit short);
@@ -240,6 +242,7 @@ same_most taken most piece full one = omega (arith, full, one)
 pub judges_past : (taken faults faults' : ℕ) (left left' after : Option (List ℕ)) (s : State) (v : Verdict) (piece : List ℕ) → IsSoFar taken left left' s → left' ≡ ahead piece after
     → taken ≡ limit → length piece ≡ 1 → Gives s [] v → faults' ≡ faults → Judges IsStreamVerdict left after faults faults' (past_limit v)
 judges_past taken faults faults' left left' after s v piece far next full one g same = record {
+  on_text = (let whole = ends_whole taken left left' s v far g in past_on_text whole.0 v whole.1);
   told = past taken left left' after s v piece far next (omega (arith, one)) full g;
   ended = λ u gap e. absurd (past_no_yes v u gap e);
   most = takes_more (limit + 1) taken left left' after s piece far next (same_most taken limit piece full one);
@@ -250,6 +253,7 @@ judges_past taken faults faults' left left' after s v piece far next full one g 
 pub judges_text : (left left' : Option (List ℕ)) (text : List ℕ) (faults faults' : ℕ) (v : Verdict) → length text ≤ limit → left ≡ ahead text left' → IsSpent left' → IsVerdict text v → faults' ≡ faults
     → Judges IsTextVerdict left left' faults faults' v
 judges_text left left' text faults faults' v short next spent is same = record {
+  on_text = on_text text v is;
   told = all_read left left' text v short next spent is;
   ended = λ u gap e. spent;
   most = record { bytes = text; short = one_more (length text) limit short; taken = next };
@@ -259,6 +263,7 @@ judges_text left left' text faults faults' v short next spent is same = record {
 
 pub judges_too_long : (left left' : Option (List ℕ)) (faults faults' : ℕ) → TakesExactly (limit + 1) left left' → faults' ≡ faults → Judges IsTextVerdict left left' faults faults' (Refused TooLong)
 judges_too_long left left' faults faults' t same = record {
+  on_text = tt;
   told = too_long left left' t.bytes t.counted t.taken;
   ended = λ u gap e. absurd cc;
   most = record { bytes = t.bytes; short = omega (arith, t.counted); taken = t.taken };

@@ -1,5 +1,5 @@
 -- Verdicts over a source of bytes.
-use Rattle.std.specs.Prelude.{ℕ, ◌+◌, ◌≡◌, ◌⊎◌, ◌≤◌, ◌<◌, List, length, take, Option, Some, None, ℤ}
+use Rattle.std.specs.Prelude.{⊤, ℕ, ◌+◌, ◌≡◌, ◌⊎◌, ◌≤◌, ◌<◌, List, length, take, Option, Some, None, ℤ}
 use Rattle.io_edge.specs.Bytes.{IsSpent}
 use Rattle.io_edge.specs.Causes.{CountsFault}
 use Rattle.io_edge.specs.Reading.{TakesAtMost, TakesExactly}
@@ -37,9 +37,16 @@ IsStreamVerdict bytes v = ((length bytes ≤ limit) × IsVerdict bytes v) ⊎ Is
 abbrev pub IsTextVerdict : List ℕ → Verdict → Type 0
 IsTextVerdict bytes v = ((length bytes ≤ limit) × IsVerdict bytes v) ⊎ ((limit < length bytes) × (v ≡ verdict.Refused fault.TooLong))
 
+-- a verdict on a text: the source was read, and memory was there
+abbrev pub IsOnText : Verdict → Type 0
+IsOnText verdict.ReadFault = ⊥
+IsOnText verdict.Memory = ⊥
+IsOnText other = ⊤
+
 -- the verdict is that on the bytes that were left, where the source tells them. What is accepted was read to its end, and no more than
 -- one byte past the limit was taken: that one too where the text is too long
 pub record Judges (IsIts : List ℕ → Verdict → Type 0) (left left' : Option (List ℕ)) (faults faults' : ℕ) (v : Verdict) : Type 0 where
+  pub on_text : IsOnText v
   pub told : (bytes : List ℕ) → left ≡ Some bytes → IsIts bytes v
   pub ended : (u gap : ℤ) → v ≡ verdict.Accepted u gap → IsSpent left'
   pub most : TakesAtMost (limit + 1) left left'

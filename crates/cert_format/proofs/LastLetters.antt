@@ -76,11 +76,11 @@ answers_write_trees s c tol budget a some few h =
     let own_letters : last_letters a.work ≡ own.letters = ap (letters_of_round a.work) (last_of w.earlier w.last a.work.rounds.items w.rounds) in
     let lam : a.plane.lam ≡ w.last.plane.lam = ap (λ (p : Plane). p.lam) w.plane in
     let of_round : IsSearchedRound s c tol own h.basis w.last h.found ⊎ IsCutShort s c own h.basis w.last h.found → AreOfTree s w.last.plane.lam a.low own.letters =
-        λ plane. elim plane [
-          | inl x ↦ searches_write_trees s w.last.plane.lam (delta_of tol) a.low h.found own.letters few h.low x.searched
-          | inr x ↦ one_leaf s w.last.plane.lam a.low own.letters x.one_leaf
-              (same_low a.low (plain_low s w.last.plane.lam (root_region s.count)) (sym h.low ∙ ap low_of x.spent))
-        ] in
+    λ plane. elim plane [
+      | inl x ↦ searches_write_trees s w.last.plane.lam (delta_of tol) a.low h.found own.letters few h.low x.searched
+      | inr x ↦ one_leaf s w.last.plane.lam a.low own.letters x.one_leaf
+          (same_low a.low (plain_low s w.last.plane.lam (root_region s.count)) (sym h.low ∙ ap low_of x.spent))
+    ] in
     let tree : AreOfTree s a.plane.lam a.low (last_letters a.work) = rw (own_letters, lam) (of_round w.ends.plane) in
     let count = tree_length s.count (leaf_test s a.plane.lam a.low) tree.tree (root_region s.count) few tree.good in
     let edges : edges_in (last_letters a.work) ≤ edges_in a.work.letters.items = rw own_letters (range_fewer a.work.letters.items w.last.from w.last.to) in

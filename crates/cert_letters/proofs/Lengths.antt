@@ -32,6 +32,10 @@ tree_length n good (Node edge lower upper) r few g =
     let ys : List ℕ = letters_of (visits upper (upper_half edge r)) in
     let x = tree_length n good lower (lower_half edge r) few g.2 in
     let y = tree_length n good upper (upper_half edge r) few g.3 in
-    rw (map-append (λ (v : Visit). letter_of v.step) (visits lower (lower_half edge r)) (visits upper (upper_half edge r)),
-    edges_more (letter_of (Halves edge)) (xs ++ ys) (is_edge n edge few g.0), edges-append xs ys, length-append xs ys)
+    rw (
+      map-append (λ (v : Visit). letter_of v.step) (visits lower (lower_half edge r)) (visits upper (upper_half edge r)),
+      edges_more (letter_of (Halves edge)) (xs ++ ys) (is_edge n edge few g.0),
+      edges-append xs ys,
+      length-append xs ys,
+    )
     (omega (arith, x, y))
