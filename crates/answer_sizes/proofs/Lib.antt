@@ -11,3 +11,4 @@ pub mod SlopeSize
 pub mod PlainSize
 pub mod LowAbove
 pub mod AnswersSmall
+pub mod Exports

@@ -3,6 +3,7 @@ pub mod Saying
 pub mod SameHeads
 pub mod SameTests
 pub mod Converse
+pub mod Sizes
 pub mod OfAnswers
 pub mod LetterSteps
 pub mod LineSteps

@@ -1,5 +1,5 @@
 -- The certificate of a lawful answer is that of a good one.
-use Rattle.std.proofs.Common.{◌≡◌, ℕ, zero, suc, ◌+◌, ◌*◌, ◌<◌, List, [], ◌∷◌, length, map, refl, sym, ap, subst, ◌∙◌, arith, Bool, true, not, Option, Some, None, ℤ, int_eq}
+use Rattle.std.proofs.Common.{◌≡◌, ℕ, ◌≤◌, zero, suc, ◌+◌, ◌*◌, ◌<◌, List, [], ◌∷◌, length, map, refl, sym, ap, subst, ◌∙◌, arith, Bool, true, not, Option, Some, None, ℤ, int_eq, inl, inr, All, get_or, slice_index}
 use Rattle.std.specs.Prelude.{◌&&◌, if◌then◌else◌, is_some}
 use Rattle.std.proofs.lemmas.Bool.{eq-eqb}
 use Rattle.log_laws.specs.Between.{Ends}
@@ -13,23 +13,33 @@ use Rattle.case_types.specs.Arithmetic.Numbers.{numbers_of, enclosures_of}
 use Rattle.case_types.specs.Arithmetic.Splits.{split_up}
 use Rattle.case_types.specs.Arithmetic.Bounds.{energy_up}
 use Rattle.case_types.specs.Arithmetic.Tables.{ends_at}
-use Rattle.case_types.specs.Energy.Divisions.{AddsUp, division_of, parts_in}
+use Rattle.case_types.specs.Energy.Divisions.{AddsUp, IsState, state_of, division_of, parts_in}
 use Rattle.case_types.specs.Energy.Components.{feed}
 use Rattle.case_types.specs.Energy.Instances.{Enclosures, pair_place}
 use Rattle.case_types.specs.Energy.Printed.{ends_in}
 use Rattle.case_types.specs.Grid.Cells.{root_region}
+use Rattle.energy_surface.specs.Lawful.{IsLawful}
 use Rattle.energy_surface.specs.Outcomes.{IsAnswer}
 use Rattle.pr_params.specs.declared.numbers.Params.{Params}
 use Rattle.pr_params.proofs.Exports.{count_of}
 use Rattle.pr_surface.specs.PengRobinson.{surface_of}
-use Rattle.cert_format.specs.Heads.{text_with}
-use Rattle.cert_format.specs.Writing.{head_of, last_letters}
+use Rattle.cert_format.specs.Heads.{IsHead, text_with}
+use Rattle.cert_format.specs.Writing.{IsSized, head_of, last_letters, certificate_text}
 use Rattle.cert_format.proofs.Exports.{answers_write_trees}
 use Rattle.cert_letters.specs.Bounds.{leaf_test}
 use Rattle.cert_letters.specs.Lines.{IsGoodTree, tree_letters}
-use Rattle.cert_check.specs.Converse.{AnswersAreAccepted}
+use Rattle.cert_check.specs.Converse.{AnswersAreAccepted, AreNamed}
+use Rattle.cert_check.specs.Judging.{IsVerdict}
+use Rattle.cert_check.specs.Streams.{IsStreamVerdict}
+use Rattle.cert_format.specs.declared.verdicts.Verdict.{Verdict}
+use Rattle.cert_format.specs.Answers.{AreLastLetters}
+use Rattle.case_types.specs.declared.phases.Phase.{Phase}
+use Rattle.log_laws.specs.Sums.{sum_below}
+use Rattle.std.proofs.lemmas.List.{length-map, get_or-map}
 use Rattle.cert_check.specs.Tests.{are_same, states_pairs, are_good_params, adds_up_at, first_unbalanced, first_broken}
+use Rattle.answer_sizes.proofs.Exports.{answers_are_small}
 use Rattle.cert_check.proofs.Converse.{good_is_accepted}
+use Rattle.cert_check.proofs.Sizes.{text_short}
 
 -- ---- the printed pairs
 same_number : (a b : ℤ) → a ≡ b → int_eq a b ≡ true
@@ -94,20 +104,50 @@ passes_tests p tol budget a h =
       same_number a.gap _ h.gap,
     ) refl
 
+-- what holds of the states of phases holds of phases
+each_phase : (n : ℕ) (fs : List Phase) → All (IsState n) (map state_of fs) → All (λ (f : Phase). 0 < sum_below n (slice_index f.parts)) fs
+each_phase n fs h k d l =
+    let at : IsState n (get_or (map state_of fs) k (state_of d)) = h k (state_of d) (rw (length-map fs state_of) l) in
+    (subst (IsState n) (get_or-map state_of fs k d (state_of d) l) at).some
+
+head_is : (p : Params) (tol budget : ℕ) (a : Answer) → budget ≤ 10000000 → IsLawful (surface_of (numbers_of p.case)) p.case tol budget a → AreNamed p.case →
+    IsSized (head_of p a) → AreLastLetters (surface_of (numbers_of p.case)) budget a → IsHead (head_of p a)
+head_is p tol budget a few lawful names sized letters =
+    let small = answers_are_small p.case tol budget a few sized.phases p.accepted lawful in
+    let most = letters.few in
+    record {
+      version = inr refl;
+      named = names.named;
+      differ = names.differ;
+      phases = each_phase p.case.n a.split.phases.items lawful.answer.divides.phases;
+      u = small.u;
+      low = small.low;
+      gap = small.gap;
+      some = letters.some;
+      few = omega (arith, most, few);
+    }
+
+-- a text within the limit
+within : (text : List ℕ) (v : Verdict) → length text ≤ 67108864 → IsStreamVerdict text v → IsVerdict text v
+within text v short (inl is) = is.1
+within text v short (inr past) = let long = past.long in absurd (omega (arith, short, long))
+
 pub answers_are_accepted : AnswersAreAccepted
-answers_are_accepted p tol budget a few lawful head sized v judged =
+answers_are_accepted p tol budget a few lawful names sized v judged =
     let c = p.case in
     let s = surface_of (numbers_of c) in
     let count = count_of c in
     let some = c.some in
     let most = c.few in
     let letters = answers_write_trees s c tol budget a (omega (arith, some, count)) (omega (arith, most, count)) lawful in
+    let long = letters.few in
+    let head = head_is p tol budget a few lawful names sized letters in
     let t = letters.written.tree in
     let good : IsGoodTree c.n (leaf_test s a.plane.lam a.low) t (root_region c.n) =
     subst (λ (n : ℕ). IsGoodTree n (leaf_test s a.plane.lam a.low) t (root_region n)) count letters.written.good in
     let written : last_letters a.work ≡ tree_letters c.n t = subst (λ (n : ℕ). last_letters a.work ≡ tree_letters n t) count letters.written.written in
-    good_is_accepted _ (head_of p a) sized (record {
+    good_is_accepted (certificate_text p a) (head_of p a) sized (record {
       tree = t;
       good = record { head = head; unbroken = passes_tests p tol budget a lawful.answer; tree_good = good; counted = ap length (sym written) };
       is = ap (λ (x : List ℕ). text_with (head_of p a) x) written;
-    }) v judged
+    }) v (within (certificate_text p a) v (text_short (head_of p a) (last_letters a.work) head sized (omega (arith, long, few))) judged)

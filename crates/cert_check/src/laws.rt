@@ -19,8 +19,7 @@ pub fn good_is_accepted()
     ensures { GoodIsAccepted }
 {}
 
-/// The certificate of a lawful answer is accepted with the answer's energy and gap, whatever its outcome, where its numbers are in
-/// range.
+/// The certificate of a lawful answer is accepted with the answer's energy and gap, whatever its outcome.
 pub fn answers_are_accepted()
     ensures { AnswersAreAccepted }
 {}

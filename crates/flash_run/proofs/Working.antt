@@ -13,17 +13,18 @@ use Rattle.cert_check.proofs.Exports.{accepted_is_good, good_certifies}
 use Rattle.report_text.specs.declared.ends.End.{End}
 use Rattle.report_text.specs.declared.ends.End.TheVariants.{Words, Read, TooLong, Table, Case, Flash, Cert, Checked, Memory}
 use Rattle.flash_run.specs.declared.wanted.Wanted.{Wanted}
-use Rattle.flash_run.specs.Headline.{IsAll, IsAccepted, Accepts, Certifies}
+use Rattle.flash_run.specs.Headline.{IsAll, IsAccepted, Accepts, Returns, Certifies}
 use Rattle.flash_run.specs.Ends.{Judges, Works, end_of, job_for}
 use Rattle.flash_run.proofs.Takes.{flash_at_most}
 
 -- ---- of a flash
 pub judged_works : (wanted : Wanted) (asked : Asked) (bytes : List ℕ) (left left' : Option (List ℕ)) (faults : ℕ) (faults' : ℕ) (failed' : Bool) (end : End)
-    → IsAll left left' bytes → faults' ≡ faults → Certifies asked bytes end → Judges wanted asked bytes end
+    → IsAll left left' bytes → faults' ≡ faults → Certifies asked bytes end → Returns end → Judges wanted asked bytes end
     → Works (Ok (job_for wanted asked)) left left' faults faults' failed' end
-judged_works wanted asked bytes left left' faults faults' failed' (Table fault) all same c j = record {
+judged_works wanted asked bytes left left' faults faults' failed' (Table fault) all same c r j = record {
   headline = tt;
   accepted = tt;
+  returned = tt;
   takes = (bytes, all);
   reads = same;
   last_take = λ e. absurd cc;
@@ -31,9 +32,10 @@ judged_works wanted asked bytes left left' faults faults' failed' (Table fault) 
   cause = record { wanted = wanted; asked = asked; asks = refl; bytes = bytes; all = all; judged = j };
   memory = λ e. absurd cc;
 }
-judged_works wanted asked bytes left left' faults faults' failed' (Case fault) all same c j = record {
+judged_works wanted asked bytes left left' faults faults' failed' (Case fault) all same c r j = record {
   headline = tt;
   accepted = tt;
+  returned = tt;
   takes = (bytes, all);
   reads = same;
   last_take = λ e. absurd cc;
@@ -41,9 +43,10 @@ judged_works wanted asked bytes left left' faults faults' failed' (Case fault) a
   cause = record { wanted = wanted; asked = asked; asks = refl; bytes = bytes; all = all; judged = j };
   memory = λ e. absurd cc;
 }
-judged_works wanted asked bytes left left' faults faults' failed' (Flash params picked tol answer) all same c j = record {
+judged_works wanted asked bytes left left' faults faults' failed' (Flash params picked tol answer) all same c r j = record {
   headline = (asked, bytes, ap (λ (w : Wanted). Ok (job_for w asked)) j.0, all, c);
   accepted = tt;
+  returned = tt;
   takes = (bytes, all);
   reads = same;
   last_take = λ e. absurd cc;
@@ -51,9 +54,10 @@ judged_works wanted asked bytes left left' faults faults' failed' (Flash params 
   cause = record { wanted = wanted; asked = asked; asks = refl; bytes = bytes; all = all; judged = j };
   memory = λ e. absurd cc;
 }
-judged_works wanted asked bytes left left' faults faults' failed' (Cert params answer) all same c j = record {
+judged_works wanted asked bytes left left' faults faults' failed' (Cert params answer) all same c r j = record {
   headline = (asked, bytes, c.0, ap (λ (w : Wanted). Ok (job_for w asked)) j.0, all, c.1);
   accepted = tt;
+  returned = r;
   takes = (bytes, all);
   reads = same;
   last_take = λ e. absurd cc;
@@ -61,9 +65,10 @@ judged_works wanted asked bytes left left' faults faults' failed' (Cert params a
   cause = record { wanted = wanted; asked = asked; asks = refl; bytes = bytes; all = all; judged = j };
   memory = λ e. absurd cc;
 }
-judged_works wanted asked bytes left left' faults faults' failed' Memory all same c j = record {
+judged_works wanted asked bytes left left' faults faults' failed' Memory all same c r j = record {
   headline = tt;
   accepted = tt;
+  returned = tt;
   takes = flash_at_most wanted asked left left' bytes all;
   reads = inl same;
   last_take = λ e. absurd cc;
@@ -71,10 +76,10 @@ judged_works wanted asked bytes left left' faults faults' failed' Memory all sam
   cause = tt;
   memory = λ e. record { wanted = wanted; asked = asked; is = refl };
 }
-judged_works wanted asked bytes left left' faults faults' failed' (Words fault) all same c j = absurd j
-judged_works wanted asked bytes left left' faults faults' failed' Read all same c j = absurd j
-judged_works wanted asked bytes left left' faults faults' failed' TooLong all same c j = absurd j
-judged_works wanted asked bytes left left' faults faults' failed' (Checked v) all same c j = absurd j
+judged_works wanted asked bytes left left' faults faults' failed' (Words fault) all same c r j = absurd j
+judged_works wanted asked bytes left left' faults faults' failed' Read all same c r j = absurd j
+judged_works wanted asked bytes left left' faults faults' failed' TooLong all same c r j = absurd j
+judged_works wanted asked bytes left left' faults faults' failed' (Checked v) all same c r j = absurd j
 
 -- ---- of a certificate
 never_past : (within : Verdict) (u gap : ℤ) → verdict.Accepted u gap ≡ past_limit within → ⊥
@@ -117,6 +122,7 @@ checked_works : (left left' : Option (List ℕ)) (faults faults' : ℕ) (failed'
 checked_works left left' faults faults' failed' v printed j = record {
   headline = tt;
   accepted = accepts_told left v j.told;
+  returned = tt;
   takes = record { taken = j.most; ended = j.ended };
   reads = j.no_fault;
   last_take = λ e. absurd cc;
@@ -130,6 +136,7 @@ long_works : (left left' : Option (List ℕ)) (faults faults' : ℕ) (failed' : 
 long_works left left' faults faults' failed' j = record {
   headline = tt;
   accepted = tt;
+  returned = tt;
   takes = j.long refl;
   reads = j.no_fault;
   last_take = λ e. absurd cc;
@@ -161,6 +168,7 @@ read_works : (left left' : Option (List ℕ)) (faults faults' : ℕ) (failed' : 
 read_works left left' faults faults' failed' fails failed = record {
   headline = tt;
   accepted = tt;
+  returned = tt;
   takes = fails.most;
   reads = fails.fault;
   last_take = λ e. failed;

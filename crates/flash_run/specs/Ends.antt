@@ -27,7 +27,7 @@ use Rattle.report_text.specs.declared.ends.End.{End}
 use Rattle.report_text.specs.declared.ends.End.TheVariants.{Words, Read, TooLong, Table, Case, Flash, Cert, Checked, Memory}
 use Rattle.flash_run.specs.declared.wanted.Wanted.{Wanted}
 use Rattle.flash_run.specs.declared.wanted.Wanted.TheVariants.{Report, Certificate}
-use Rattle.flash_run.specs.Headline.{table_limit, IsAll, IsCase, Answers, Accepts}
+use Rattle.flash_run.specs.Headline.{table_limit, IsAll, IsCase, Answers, Accepts, Returns}
 
 -- ---- the source
 -- one fault of the source was counted at Read, and none where words, table, case or certificate were judged
@@ -151,6 +151,7 @@ Comes job left left' Memory = ⊤
 pub record Works (job : Result PlainJob WordFault) (left left' : Option (List ℕ)) (faults faults' : ℕ) (failed' : Bool) (end : End) : Type 0 where
   pub headline : Answers job left left' end
   pub accepted : Accepts left end
+  pub returned : Returns end
   pub takes : Takes job end left left'
   pub reads : CountsRead end faults faults'
   pub last_take : end ≡ Read → failed' ≡ true

@@ -16,8 +16,11 @@ use Rattle.component_table.specs.Tables.{Held, table_of}
 use Rattle.pr_params.specs.declared.numbers.Params.{Params}
 use Rattle.io_edge.specs.Bytes.{ahead, IsSpent}
 use Rattle.cert_format.specs.declared.heads.Head.{Head}
+use Rattle.cert_format.specs.declared.verdicts.Verdict.{Verdict}
 use Rattle.cert_format.specs.declared.verdicts.Verdict.TheVariants.{Accepted}
+use Rattle.cert_format.specs.Writing.{certificate_text}
 use Rattle.cert_check.specs.Certificates.{IsGoodText}
+use Rattle.cert_check.specs.Streams.{IsStreamVerdict}
 use Rattle.report_text.specs.declared.ends.End.{End}
 use Rattle.report_text.specs.declared.ends.End.TheVariants.{Flash, Cert, Checked}
 
@@ -73,3 +76,8 @@ pub record IsAccepted (bytes : List ℕ) (u gap : ℤ) : Type 0 where
 abbrev pub Accepts : Option (List ℕ) → End → Type 0
 Accepts left (Checked (Accepted u gap)) = (bytes : List ℕ) → left ≡ Some bytes → IsAccepted bytes u gap
 Accepts left _ = ⊤
+
+-- what is printed as a certificate has one verdict: it is accepted, with the answer's energy and gap, whatever the outcome
+abbrev pub Returns : End → Type 0
+Returns (Cert params answer) = (v : Verdict) → IsStreamVerdict (certificate_text params answer) v → v ≡ Accepted answer.u answer.gap
+Returns _ = ⊤

@@ -3,10 +3,11 @@
 ghost use Rattle.std.specs.Prelude.{◌≤◌, length, Ok};
 ghost use Rattle.case_words.specs.Views.{asked_by};
 ghost use Rattle.flash_run.specs.Ends.{Judges, Works, job_for};
-ghost use Rattle.flash_run.specs.Headline.{Certifies};
+ghost use Rattle.flash_run.specs.Headline.{Certifies, Returns};
 
 use crate::wanted::Wanted;
 use case_words::FlashWords;
+use cert_format::{head_is_sized, head_of};
 use component_table::{CaseFault, TableError, pick, read_table};
 use io_edge::{ReadStop, Source, read_all};
 use plane_rounds::flash_tp;
@@ -35,6 +36,7 @@ pub fn flash_job<S: Source>(alloc: Global, wanted: Wanted, job: &FlashWords, sou
 fn judge(alloc: Global, wanted: Wanted, job: &FlashWords, bytes: &[u8]) -> End
     requires { length bytes.now ≤ 4194304 }
     ensures certified { Certifies (asked_by job.now) bytes.now result }
+    ensures returned { Returns result }
     ensures cause { Judges wanted (asked_by job.now) bytes.now result }
 {
     let table = match read_table(alloc, bytes) {
@@ -55,6 +57,10 @@ fn judge(alloc: Global, wanted: Wanted, job: &FlashWords, bytes: &[u8]) -> End
     };
     match wanted {
         Wanted::Report => End::Flash(params, picked, job.tol, answer),
-        Wanted::Certificate => End::Cert(params, answer),
+        Wanted::Certificate => {
+            // What the arrays of a head keep, for the clause that its certificate is accepted.
+            head_is_sized(&head_of(&params, &answer));
+            End::Cert(params, answer)
+        }
     }
 }

@@ -7,7 +7,7 @@ ghost use Rattle.io_edge.specs.Writing.{WritesAll, WritesSome};
 ghost use Rattle.report_text.specs.ReportText.{report_text};
 ghost use Rattle.report_text.specs.Statuses.{status_of};
 ghost use Rattle.flash_run.specs.Ends.{CountsRead, Takes, Comes, Works};
-ghost use Rattle.flash_run.specs.Headline.{Accepts, Answers};
+ghost use Rattle.flash_run.specs.Headline.{Accepts, Answers, Returns};
 
 use crate::checking::check_job;
 use crate::ends::RunEnd;
@@ -31,6 +31,7 @@ pub fn run<S: Source, K: Sink>(
     // Every flash is certified, for the words and all bytes of the input, and so is every certificate that is accepted.
     ensures headline { Answers (job_of words.now.items) (S.left source.old) (S.left source.new) result.end }
     ensures accepted { Accepts (S.left source.old) result.end }
+    ensures returned { Returns result.end }
 
     ensures status { (result.status ≡ 7) ⊎ (result.status ≡ status_of result.end) }
     ensures memory { result.end ≡ End.Memory → result.status ≡ 8 }

@@ -1,0 +1,2 @@
+-- The one door: what the proofs of crates above may cite.
+pub use Rattle.answer_sizes.proofs.AnswersSmall.{answers_are_small}
