@@ -3,6 +3,7 @@
 use super::*;
 use cert_format::{CertFault, Verdict};
 use io_edge::MemSource;
+use std::alloc::Global;
 use std::test::Fail;
 
 #[test]
@@ -324,17 +325,32 @@ fn faults_behind(rt: HostRuntime) -> Result<(), Fail> {
     Ok(())
 }
 
-/// One byte more than a certificate may have.
+/// A text of so many bytes that begins with this line: all others are `a`.
+fn padded(alloc: Global, first: &[u8], length: usize) -> Result<Vec<u8>, Fail> {
+    let mut text = first.to_vec(alloc)?;
+    for _ in first.len()..length {
+        text.push(b'a')?;
+    }
+    Ok(text)
+}
+
+/// One byte more than a certificate may have, all in one line.
 #[test]
-fn too_long(rt: HostRuntime) -> Result<(), Fail> {
+fn too_long_text(rt: HostRuntime) -> Result<(), Fail> {
     let alloc = rt.alloc();
-    let text = vec![in alloc; b'a'; 67_108_865]?;
+    let text = padded(alloc, b"".as_slice(), 67_108_865)?;
     let mut source = MemSource::new(text, 4096, [].to_vec(alloc)?);
     assert_eq!(rt;
         check(alloc, &mut source),
         Verdict::Refused(CertFault::TooLong)
     );
-    let text = vec![in alloc; b'a'; 67_108_865]?;
+    Ok(())
+}
+
+#[test]
+fn too_long_stream(rt: HostRuntime) -> Result<(), Fail> {
+    let alloc = rt.alloc();
+    let text = padded(alloc, b"".as_slice(), 67_108_865)?;
     let mut source = MemSource::new(text, 4096, [].to_vec(alloc)?);
     assert_eq!(rt;
         check_stream(&mut source),
@@ -347,15 +363,13 @@ fn too_long(rt: HostRuntime) -> Result<(), Fail> {
 #[test]
 fn too_long_behind(rt: HostRuntime) -> Result<(), Fail> {
     let alloc = rt.alloc();
-    let mut text = vec![in alloc; b'a'; 67_108_865]?;
-    text[..15].copy_from_slice(b"prflash-cert 9\n".as_slice());
+    let text = padded(alloc, b"prflash-cert 9\n".as_slice(), 67_108_865)?;
     let mut source = MemSource::new(text, 4096, [].to_vec(alloc)?);
     assert_eq!(rt;
         check(alloc, &mut source),
         Verdict::Refused(CertFault::TooLong)
     );
-    let mut text = vec![in alloc; b'a'; 67_108_865]?;
-    text[..15].copy_from_slice(b"prflash-cert 9\n".as_slice());
+    let text = padded(alloc, b"prflash-cert 9\n".as_slice(), 67_108_865)?;
     let mut source = MemSource::new(text, 4096, [].to_vec(alloc)?);
     assert_eq!(rt;
         check_stream(&mut source),
