@@ -31,3 +31,11 @@ returns-clause-certified c = (
     near = search rules;
   },
 )
+
+pub returns-clause-returned : goal.returns-clause-returned
+returns-clause-returned c =
+    let job = c.args.job.now in
+    let picked = c.in-Ok-pick.picked in
+    let p = c.in-Ok-params.params in
+    let names = are_named (held_by c.in-Ok.table) (asked_by job) picked c.in-Ok-pick.ensures.picked job.named job.differ in
+    ?
