@@ -188,8 +188,8 @@ case_names t asked picked p =
     let few = c.few in
     let chosen = p.chosen in
     let names : (i : ℕ) → i < c.n → name_of_component c i ≡ name_at t.comps (slice_index chosen.places i) = λ i l.
-        ap (λ (xs : List (List ℕ)). slice_index_or xs i []) (row_names c.rows ∙ ap (map (λ (r : PlainRow). r.name)) p.case_is.rows)
-        ∙ four_at (λ i. name_at t.comps (slice_index chosen.places i)) i (omega (arith, l, few)) in
+    ap (λ (xs : List (List ℕ)). slice_index_or xs i []) (row_names c.rows ∙ ap (map (λ (r : PlainRow). r.name)) p.case_is.rows)
+    ∙ four_at (λ i. name_at t.comps (slice_index chosen.places i)) i (omega (arith, l, few)) in
     let long : length chosen.places ≡ c.n = sym (p.case_is.count ∙ even 0 t.comps none_chosen chosen asked.names asked.z p.chosen_is refl) in
     by_index c.n (name_at t.comps) (name_of_component c) chosen.places few long names
     ∙ names_kept 0 t.comps none_chosen chosen asked.names asked.z p.chosen_is
