@@ -25,6 +25,8 @@ mod tests;
 mod trials;
 
 pub use domain::whole_low;
+pub use looks::{Looked, box_parts, look};
+pub use parts::{BoxParts, Half, Shared};
 pub use planes::{plane_at_feed, plane_on};
 pub use points::column_at;
 pub use searching::search;

@@ -41,7 +41,7 @@ pub fn look<S: Surface>(surface: &S, plane: &Plane, half: &Half) -> Looked
 }
 
 /// The parts of lower bounds that belong to the compositions of a cell.
-fn box_parts<S: Surface>(surface: &S, plane: &Plane, cell: &Cell) -> BoxParts
+pub fn box_parts<S: Surface>(surface: &S, plane: &Plane, cell: &Cell) -> BoxParts
     requires { IsFalse (misses (S.bounds surface.now).count (region_of cell.now)) }
     ensures { IsOverBox (meanings (S.bounds surface.now).count (S.is_mix_low surface.now) (S.is_mix_up surface.now) (S.are_logs surface.now) (S.is_mix_slope surface.now) (S.is_packing_slope surface.now)) plane.now.lam (region_of cell.now) result }
 {

@@ -3,3 +3,4 @@ pub mod Arithmetic
 pub mod Grid
 pub mod Spared
 pub mod Ranges
+pub mod Brackets

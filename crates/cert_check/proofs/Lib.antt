@@ -4,6 +4,7 @@ pub mod SameHeads
 pub mod SameTests
 pub mod Converse
 pub mod Sizes
+pub mod Keeping
 pub mod OfAnswers
 pub mod LetterSteps
 pub mod LineSteps

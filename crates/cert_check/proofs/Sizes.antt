@@ -1,9 +1,9 @@
 -- How long the certificate of an answer is.
-use Rattle.std.proofs.Common.{◌≡◌, ℕ, ◌+◌, ◌*◌, ◌≤◌, List, [], ◌∷◌, ◌++◌, length, map, refl, sym, ap, ◌∙◌, arith, Option, Some, None}
+use Rattle.std.proofs.Common.{◌≡◌, ℕ, ◌*◌, ◌≤◌, List, [], ◌∷◌, ◌++◌, length, map, refl, ap, ◌∙◌, arith, Option, Some, None}
 use Rattle.std.specs.Prelude.{codes}
 use Rattle.std.proofs.lemmas.List.{length-append, length-map}
 use Rattle.cert_format.specs.declared.heads.Head.{Head}
-use Rattle.cert_format.specs.Heads.{IsHead, head_text, text_with, line_of, said_of, shape_of, says}
+use Rattle.cert_format.specs.Heads.{IsHead, head_text, text_with, line_of, shape_of, says}
 use Rattle.cert_format.specs.Writing.{IsSized}
 use Rattle.cert_format.proofs.Exports.{heads_are_read_back}
 use Rattle.cert_lines.specs.Heads.{Draft, blank, with_line}

@@ -4,3 +4,4 @@ pub mod Certificates
 pub mod Converse
 pub mod Streams
 pub mod Checking
+pub mod Kept

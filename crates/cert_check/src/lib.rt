@@ -9,6 +9,7 @@
 
 mod broken;
 mod checker;
+mod kept;
 mod laws;
 mod leaves;
 mod line;

@@ -8,6 +8,7 @@ ghost use Rattle.case_types.specs.Grid.Cells.{region_of};
 ghost use Rattle.cert_letters.specs.Steps.{mark_of};
 ghost use Rattle.cert_check.specs.Tests.{passes};
 
+use crate::kept::Kept;
 use crate::leaves::leaf_passes;
 use crate::line::LineStart;
 use crate::line_count::lines_of;
@@ -37,18 +38,20 @@ pub struct Tail {
     params: Params,
     part: Part,
     tree: TreeReader,
+    kept: Kept,
     line: LineStart,
 }
 
 impl Model for Tail {
     ghost use Rattle.std.specs.Prelude.{◌≡◌};
     ghost use Rattle.cert_check.specs.Checking.{TailState, IsBegun};
+    ghost use Rattle.cert_check.specs.Kept.{IsKeptIn};
 
     ghost Value = { TailState };
 
     ghost view = { λ s. record { part = s.part; head = s.head; reading = s.tree; line = s.line } };
 
-    ghost invariant = { λ s. (s.params.case ≡ s.head.params.case) × IsBegun (record { part = s.part; head = s.head; reading = s.tree; line = s.line }) };
+    ghost invariant = { λ s. (s.params.case ≡ s.head.params.case) × IsBegun (record { part = s.part; head = s.head; reading = s.tree; line = s.line }) × IsKeptIn s.params.case s.head.plane.lam s.kept };
 }
 
 impl Tail {
@@ -64,6 +67,7 @@ impl Tail {
             params,
             part: Part::Letters,
             tree,
+            kept: Kept::nothing(),
             line: LineStart::new(),
         }
     }
@@ -131,14 +135,22 @@ impl Tail {
     }
 
     /// Whether a leaf is as its letter says, and lies no lower than stated.
-    fn passes(&self, logs: Logarithms, cell: &Cell, how: LeafHow) -> bool
-        ensures { result ≡ passes self.now.head (region_of cell.now) (mark_of how) }
+    fn passes(&mut self, logs: Logarithms, cell: &Cell, how: LeafHow) -> bool
+        ensures value { result ≡ passes self.old.head (region_of cell.now) (mark_of how) }
+        ensures same { self.new ≡ self.old }
     {
         let surface = PengRobinson {
             params: &self.params,
             logs,
         };
-        leaf_passes(&surface, &self.head.plane, self.head.low, cell, how)
+        leaf_passes(
+            &surface,
+            &self.head.plane,
+            self.head.low,
+            &mut self.kept,
+            cell,
+            how,
+        )
     }
 
     /// A byte of the line `end`.

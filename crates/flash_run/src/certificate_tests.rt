@@ -2,7 +2,7 @@
 
 ghost use Rattle.std.specs.Prelude.{◌<◌};
 
-use crate::tests::run_in_pieces;
+use crate::tests::{GASES, run_in_pieces};
 use std::alloc::{AllocError, Global};
 use std::process::Abort;
 use std::test::Fail;
@@ -58,6 +58,26 @@ fn writes_certificates(rt: HostRuntime) -> Result<(), Fail> {
         assert_eq!(rt; status, want, "{words}");
         let text = joined(alloc, numbers, letters, "end\n")?;
         assert_eq!(rt; sink.held(), text.as_slice(), "{words}");
+    }
+    Ok(())
+}
+
+#[test]
+fn accepts_what_is_written(rt: HostRuntime) -> Result<(), Fail> {
+    let alloc = rt.alloc();
+    // Open answers of two components, by both editions.
+    let cases = [
+        "cert T=300 P=5000000 z=1,1 names=methane,decane tol=262144 budget=1",
+        "cert T=300 P=5000000 z=1,1 names=methane,decane tol=262144 budget=3 kappa=78",
+    ];
+    for words in cases {
+        let table = GASES.as_bytes().to_vec(alloc)?;
+        let (status, sink) = run_in_pieces(alloc, words, table, 4096, &[], &[])?;
+        assert_eq!(rt; status, 5, "{words}");
+        let text = sink.held().to_vec(alloc)?;
+        let (status, sink) = run_in_pieces(alloc, "check", text, 4096, &[], &[])?;
+        assert_eq!(rt; status, 0, "{words}");
+        assert!(rt; sink.held().starts_with(b"accepted U="), "{words}");
     }
     Ok(())
 }

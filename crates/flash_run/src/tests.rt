@@ -11,7 +11,7 @@ const WORDS: &str = "tp T=300 P=1000000 z=1 names=a tol=1024 budget=200000";
 
 const TABLE: &str = "comp,a,300,1000000,0,\n";
 
-const GASES: &str = "comp,methane,190.564,4599200,0.0114,\n\
+pub const GASES: &str = "comp,methane,190.564,4599200,0.0114,\n\
     comp,propane,369.83,4248000,0.1523,\n\
     comp,decane,617.7,2110000,0.4923,\n\
     cp,methane,19.25,52.13,11.97,-11.32\n";

@@ -4,3 +4,5 @@ pub mod FeedPhase
 pub mod OnePhase
 pub mod Weighed
 pub mod Parts
+pub mod Order
+pub mod ScanSteps

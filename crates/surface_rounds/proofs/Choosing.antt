@@ -5,7 +5,7 @@ use Rattle.surface_rounds.specs.declared.choices.Choice.TheVariants as Choices
 use Rattle.surface_rounds.specs.declared.splits.Rival.{Rival}
 use Rattle.surface_rounds.specs.Choices.{IsLeast, IsNear, IsChosen}
 use Rattle.surface_rounds.specs.Rivals.{energy_at}
-use Rattle.surface_rounds.proofs.Order.{last_or_before, no_less, at_most, through}
+use Rattle.split_energies.proofs.Exports.{last_or_before, no_less, at_most, through}
 
 -- ---- the least
 pub least_begun : (rivals : List Rival) (basis : ℤ) → IsLeast rivals 0 basis basis

@@ -11,14 +11,13 @@ use Rattle.case_types.specs.Arithmetic.Splits.{phase_up, split_up}
 use Rattle.energy_surface.specs.Scans.{scan_packing, one_phase_up}
 use Rattle.energy_surface.specs.Surfaces.{Surface}
 use Rattle.split_energies.specs.Feeds.{feed_phase, IsOnePhase}
-use Rattle.split_energies.proofs.Exports.{feed_up, one_phase_energy, one_phase_divides}
-use Rattle.surface_rounds.specs.declared.scans.Scanned.{Scanned}
+use Rattle.split_energies.proofs.Exports.{feed_up, one_phase_energy, one_phase_divides, through, scan_inside, lowest_is}
+use Rattle.split_energies.specs.declared.scans.Scanned.{Scanned}
 use Rattle.surface_rounds.specs.declared.splits.Rival.{Rival}
-use Rattle.surface_rounds.specs.Guessing.{IsGuess, IsInside}
+use Rattle.split_energies.specs.Scanned.{IsInside}
+use Rattle.surface_rounds.specs.Guessing.{IsGuess}
 use Rattle.surface_rounds.specs.Rivals.{energy_at, IsRival, AreRivals, splits_behind}
-use Rattle.surface_rounds.specs.Scanned.{IsScanned, lowest_of}
-use Rattle.surface_rounds.proofs.Order.{through}
-use Rattle.surface_rounds.proofs.ScanSteps.{scan_inside, lowest_is}
+use Rattle.split_energies.specs.Scanned.{IsScanned, lowest_of}
 
 -- ---- the feed in one phase
 pub record IsAlone (s : Surface) (c : Case) (found : Scanned) : Type 0 where

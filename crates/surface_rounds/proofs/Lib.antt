@@ -1,7 +1,5 @@
 pub mod Growing
-pub mod Order
 pub mod Choosing
-pub mod ScanSteps
 pub mod FirstSplits
 pub mod PureColumns
 pub mod ChosenSplits

@@ -17,7 +17,7 @@ use Rattle.box_search.specs.Found.{IsFound, units_of}
 use Rattle.box_search.specs.Written.{Searches}
 use Rattle.surface_rounds.specs.Guessing.{LiesNoHigher}
 use Rattle.surface_rounds.specs.Polished.{IsPolished}
-use Rattle.surface_rounds.proofs.Order.{through}
+use Rattle.split_energies.proofs.Exports.{through}
 
 below : (up plane other at delta : ℤ) → (up -ℤ plane) ≤ℤ (other -ℤ at) → (other +ℤ delta) <ℤ at → (up +ℤ delta) <ℤ plane
 below up plane other at delta h k = omega (arith, ints, h, k)

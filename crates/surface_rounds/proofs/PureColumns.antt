@@ -14,11 +14,11 @@ use Rattle.energy_surface.specs.Lawful.{pure_composition, IsPureColumn}
 use Rattle.energy_surface.specs.Program.Bases.{column_at}
 use Rattle.energy_surface.specs.Surfaces.{Surface}
 use Rattle.exact_lp.proofs.Exports.{column_at-append}
-use Rattle.surface_rounds.specs.declared.scans.Scanned.{Scanned}
+use Rattle.split_energies.specs.declared.scans.Scanned.{Scanned}
 use Rattle.surface_rounds.specs.Flashing.{ArePure}
-use Rattle.surface_rounds.specs.Guessing.{IsInside}
-use Rattle.surface_rounds.specs.Scanned.{state_at}
-use Rattle.surface_rounds.proofs.ScanSteps.{IsLowest}
+use Rattle.split_energies.specs.Scanned.{IsInside}
+use Rattle.split_energies.specs.Scanned.{state_at}
+use Rattle.split_energies.proofs.Exports.{IsLowest}
 
 -- ---- a sum of one number
 nothing : (n : ℕ) (f : ℕ → ℕ) → ((i : ℕ) → i < n → f i ≡ 0) → sum_below n f ≡ 0

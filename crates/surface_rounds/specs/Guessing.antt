@@ -1,5 +1,5 @@
 -- Guesses of the phases of a flash.
-use Rattle.std.specs.Prelude.{ℕ, ◌^◌, ◌<◌, ◌≤◌, All, ◌-ℤ◌, ◌≤ℤ◌, unsigned_abs}
+use Rattle.std.specs.Prelude.{◌^◌, ◌<◌, All, ◌-ℤ◌, ◌≤ℤ◌, unsigned_abs}
 use Rattle.case_types.specs.declared.cases.Case.{Case}
 use Rattle.case_types.specs.declared.phases.Phase.{Phase}
 use Rattle.case_types.specs.declared.phases.Split.{Split}
@@ -14,11 +14,6 @@ use Rattle.energy_surface.specs.Surfaces.{Surface}
 pub record IsGuess (s : Surface) (c : Case) (split : Split) : Type 0 where
   pub divides : Divides c (division_of split)
   pub shallow : All (λ (f : Phase). unsigned_abs (phase_up s.count s.up f) < 2 ^ 49) split.phases.items
-
--- a packing fraction on the grid, strictly between 0 and 1
-pub record IsInside (y : ℕ) : Type 0 where
-  pub some : 1 ≤ y
-  pub less : y < 2 ^ 40
 
 -- the one column lies at most as far above the plane as the other
 abbrev pub LiesNoHigher : Surface → Plane → Column → Column → Type 0

@@ -1,6 +1,5 @@
 pub mod Room
 pub mod Noted
-pub mod Scanned
 pub mod Guessing
 pub mod Rivals
 pub mod Choices

@@ -2,15 +2,13 @@
 
 use arrayvec::ArrayVec;
 use case_types::{BoxX, Column, Plane, Split};
+use split_energies::PACKINGS;
 
 /// The most splits that are guessed.
 pub const SPLITS: usize = 8;
 
 /// The most columns that are guessed.
 pub const COLUMNS: usize = 32;
-
-/// The most packing fractions that are guessed at a composition.
-pub const PACKINGS: usize = 3;
 
 /// Splits of the feed that may have nearly the least energy, and columns near their phases.
 #[derive(Drop)]
@@ -28,7 +26,8 @@ pub trait Guide {
     ghost use Rattle.case_types.specs.declared.cases.Case.{Case};
     ghost use Rattle.energy_surface.specs.Columns.{IsColumn};
     ghost use Rattle.energy_surface.specs.Surfaces.{Surface as Bounds};
-    ghost use Rattle.surface_rounds.specs.Guessing.{IsGuess, IsInside, LiesNoHigher};
+    ghost use Rattle.split_energies.specs.Scanned.{IsInside};
+    ghost use Rattle.surface_rounds.specs.Guessing.{IsGuess, LiesNoHigher};
 
     /// The bounds of the surface.
     ghost bounds: { Self → Bounds };

@@ -14,9 +14,9 @@ mod optimizing;
 mod pure_columns;
 mod rivals;
 mod rounds;
-mod scans;
 mod splits;
 mod stages;
 
 pub use flashing::flashed;
-pub use guides::{COLUMNS, Guesses, Guide, PACKINGS, SPLITS};
+pub use guides::{COLUMNS, Guesses, Guide, SPLITS};
+pub use split_energies::PACKINGS;

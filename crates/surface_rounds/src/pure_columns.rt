@@ -6,12 +6,12 @@ ghost use Rattle.energy_surface.specs.Lawful.{pure_composition, IsPureColumn};
 ghost use Rattle.surface_rounds.specs.Flashing.{ArePure};
 
 use crate::guides::{COLUMNS, Guide};
-use crate::scans::{half, lowest};
 use arrayvec::ArrayVec;
 use box_search::column_at;
 use case_types::{Column, Columns, SLOTS};
 use density_boxes::box_at;
 use energy_surface::Surface;
+use split_energies::{half, lowest};
 
 /// Keeps the column of each component alone, in their order.
 pub fn keep_pure<S: Surface, G: Guide>(surface: &S, guide: &G, columns: &mut Columns)

@@ -7,13 +7,12 @@ ghost use Rattle.surface_rounds.specs.Guessing.{IsGuess};
 ghost use Rattle.surface_rounds.specs.Rivals.{IsRival, AreRivals, splits_behind};
 
 use crate::guides::{Guide, SPLITS};
-use crate::scans::{lowest, scan};
 use crate::splits::Rival;
 use arrayvec::ArrayVec;
 use case_types::{BoxX, Case, Split};
 use density_boxes::phase_box;
 use energy_surface::Surface;
-use split_energies::{feed_as_phase, one_phase, split_energy};
+use split_energies::{feed_as_phase, lowest, one_phase, scan, split_energy};
 
 /// The most rivals: the feed in one phase, and the splits that are guessed.
 pub const RIVALS: usize = SPLITS + 1;

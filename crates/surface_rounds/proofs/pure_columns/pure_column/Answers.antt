@@ -1,7 +1,7 @@
 use Rattle.std.proofs.Common.{◌^◌, ◌<◌, ap, ◌∙◌, arith, unsigned_abs}
 use Rattle.case_types.specs.Arithmetic.Bounds.{Box, box_of}
 use Rattle.surface_rounds.proofs.PureColumns.{pure_whole, pure_point, pure_lies}
-use Rattle.surface_rounds.proofs.ScanSteps.{IsLowest, lowest_is, up_of, half_inside}
+use Rattle.split_energies.proofs.Exports.{IsLowest, lowest_is, up_of, half_inside}
 use Rattle.surface_rounds.proofs.pure_columns.pure_column.Goals as goal
 use Rattle.surface_rounds.proofs.pure_columns.pure_column.Goals.{After-half-last, After-lowest-found}
 

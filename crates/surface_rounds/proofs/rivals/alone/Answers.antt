@@ -1,6 +1,6 @@
 use Rattle.std.proofs.Common.{sym}
 use Rattle.case_types.specs.Arithmetic.Bounds.{box_of}
-use Rattle.surface_rounds.specs.Scanned.{IsScanned}
+use Rattle.split_energies.specs.Scanned.{IsScanned}
 use Rattle.surface_rounds.proofs.FirstSplits.{IsAlone, alone_found, alone_guess, alone_energy}
 use Rattle.surface_rounds.proofs.rivals.alone.Goals as goal
 use Rattle.surface_rounds.proofs.rivals.alone.Goals.{After-scan-scanned, After-lowest-found}

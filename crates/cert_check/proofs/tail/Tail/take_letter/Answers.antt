@@ -17,19 +17,19 @@ pub invariant_of-self-in-Inner : goal.invariant_of-self-in-Inner
 invariant_of-self-in-Inner c =
     let fewer = left_stays c.self.inside.tree c.args.byte in
     let stays = rw (← c.step.ensures.next) at fewer in
-    (c.self.invariant.0, record { head = c.self.invariant.1.head; left = omega (arith, stays, c.self.invariant.1.left); line = c.self.invariant.1.line })
+    (c.self.invariant.0, record { head = c.self.invariant.1.head; left = omega (arith, stays, c.self.invariant.1.left); line = c.self.invariant.1.line }, c.self.invariant.2)
 
 pub invariant_of-self-in-Leaf : goal.invariant_of-self-in-Leaf
 invariant_of-self-in-Leaf c =
     let fewer = left_stays c.self.inside.tree c.args.byte in
     let stays = rw (← c.step.ensures.next) at fewer in
-    (c.self.invariant.0, record { head = c.self.invariant.1.head; left = omega (arith, stays, c.self.invariant.1.left); line = c.self.invariant.1.line })
+    (c.self.invariant.0, record { head = c.self.invariant.1.head; left = omega (arith, stays, c.self.invariant.1.left); line = c.self.invariant.1.line }, c.self.invariant.2)
 
 pub invariant_of-self-in-Bad : goal.invariant_of-self-in-Bad
 invariant_of-self-in-Bad c =
     let fewer = left_stays c.self.inside.tree c.args.byte in
     let stays = rw (← c.step.ensures.next) at fewer in
-    (c.self.invariant.0, record { head = c.self.invariant.1.head; left = omega (arith, stays, c.self.invariant.1.left); line = c.self.invariant.1.line })
+    (c.self.invariant.0, record { head = c.self.invariant.1.head; left = omega (arith, stays, c.self.invariant.1.left); line = c.self.invariant.1.line }, c.self.invariant.2)
 
 pub returns-in-Inner : goal.returns-in-Inner
 returns-in-Inner c =
@@ -44,8 +44,8 @@ returns-then-passes c =
     let at = rw (← c.self.view_is) at c.requires in
     let further = goes_on c.self.inside.tree c.args.byte c.is_whole.result c.is_whole.ensures c.else-is_whole.either in
     let told = sym c.step.ensures.answer ∙ ap answer_of c.in-Leaf.is in
-    let passes = sym c.passes.ensures ∙ c.if-passes.true in
-    rw (← c.self.view_is, at, c.step.ensures.next)
+    let passes = sym c.passes.ensures.value ∙ c.if-passes.true in
+    rw (← c.self.view_is, c.passes.ensures.same, at, c.step.ensures.next)
     (λ bytes. leaf_at c.self.inside.head c.self.inside.tree c.args.byte bytes (region_of c.in-Leaf.cell) (mark_of c.in-Leaf.how) c.in-Leaf.index c.in-Leaf.last c.self.invariant.1.left further told passes)
 
 pub returns-else-passes : goal.returns-else-passes
@@ -53,7 +53,7 @@ returns-else-passes c =
     let at = rw (← c.self.view_is) at c.requires in
     let further = goes_on c.self.inside.tree c.args.byte c.is_whole.result c.is_whole.ensures c.else-is_whole.either in
     let told = sym c.step.ensures.answer ∙ ap answer_of c.in-Leaf.is in
-    let passes = sym c.passes.ensures ∙ c.if-passes.false in
+    let passes = sym c.passes.ensures.value ∙ c.if-passes.false in
     rw (← c.self.view_is, at)
     ((λ bytes. leaf_fails c.self.inside.head c.self.inside.tree (place_in c.self.inside.head c.self.inside.tree) c.args.byte bytes (region_of c.in-Leaf.cell) (mark_of c.in-Leaf.how) c.in-Leaf.index c.in-Leaf.last further told passes), refl)
 

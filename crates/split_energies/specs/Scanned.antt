@@ -1,9 +1,14 @@
 -- States of one phase, and which of them has the least energy.
-use Rattle.std.specs.Prelude.{ℕ, ◌^◌, ◌<◌, ◌≡◌, List, [], ◌∷◌, if◌then◌else◌, int_le, ◌≤ℤ◌, ◌<ℤ◌, unsigned_abs}
+use Rattle.std.specs.Prelude.{ℕ, ◌^◌, ◌<◌, ◌≤◌, ◌≡◌, List, [], ◌∷◌, if◌then◌else◌, int_le, ◌≤ℤ◌, ◌<ℤ◌, unsigned_abs}
 use Rattle.case_types.specs.Arithmetic.Bounds.{Box}
 use Rattle.energy_surface.specs.Scans.{scan_packing}
 use Rattle.energy_surface.specs.Surfaces.{Surface}
-use Rattle.surface_rounds.specs.declared.scans.Scanned.{Scanned}
+use Rattle.split_energies.specs.declared.scans.Scanned.{Scanned}
+
+-- a packing fraction on the grid, strictly between 0 and 1
+pub record IsInside (y : ℕ) : Type 0 where
+  pub some : 1 ≤ y
+  pub less : y < 2 ^ 40
 
 -- of the packing fractions at the places below the limit, the first one at which the upper energy over the box is least
 pub record IsScannedBelow (s : Surface) (x : Box) (limit : ℕ) (found : Scanned) : Type 0 where

@@ -3,13 +3,14 @@
 ghost use Rattle.std.specs.Prelude.{ℕ, ◌≡◌, ◌≤◌, ◌<◌, ◌^◌, All, neg_ℤ, pos, ◌<ℤ◌, unsigned_abs};
 ghost use Rattle.case_types.specs.Arithmetic.Bounds.{Box};
 ghost use Rattle.energy_surface.specs.Scans.{scan_packing};
-ghost use Rattle.surface_rounds.specs.Guessing.{IsInside};
-ghost use Rattle.surface_rounds.specs.Scanned.{IsScanned, state_at, lowest_of};
+ghost use Rattle.split_energies.specs.Scanned.{IsInside, IsScanned, state_at, lowest_of};
 
-use crate::guides::PACKINGS;
 use arrayvec::ArrayVec;
 use case_types::MixUp;
 use energy_surface::Surface;
+
+/// The most packing fractions that are tried at a composition beside those of a scan.
+pub const PACKINGS: usize = 3;
 
 /// How many packing fractions the scan tries.
 const PLACES: u64 = 64;

@@ -3,10 +3,10 @@ use Rattle.std.proofs.lemmas.Int.{ints}
 use Rattle.std.proofs.Math.ListN.{get_or}
 use Rattle.std.proofs.Math.Seq.{drop-length}
 use Rattle.case_types.specs.Arithmetic.Bounds.{Box}
-use Rattle.surface_rounds.specs.Scanned.{state_at, lowest_of}
-use Rattle.surface_rounds.proofs.ScanSteps.{lower_taken, lower_stays, lowest_more, lower_small}
-use Rattle.surface_rounds.proofs.scans.lowest.Goals as goal
-use Rattle.surface_rounds.proofs.scans.lowest.Goals.{After-state-next}
+use Rattle.split_energies.specs.Scanned.{state_at, lowest_of}
+use Rattle.split_energies.proofs.ScanSteps.{lower_taken, lower_stays, lowest_more, lower_small}
+use Rattle.split_energies.proofs.scans.lowest.Goals as goal
+use Rattle.split_energies.proofs.scans.lowest.Goals.{After-state-next}
 
 pub loop-k-init : goal.loop-k-init
 unfolding lowest_of

@@ -1,8 +1,8 @@
 use Rattle.std.proofs.Common.{◌∙◌, arith}
 use Rattle.std.proofs.lemmas.Int.{ints}
-use Rattle.surface_rounds.proofs.ScanSteps.{scan_begun, scan_replaced, scan_kept, packing_of, up_of}
-use Rattle.surface_rounds.proofs.scans.scan.Goals as goal
-use Rattle.surface_rounds.proofs.scans.scan.Goals.{then-next-best, else-next-best}
+use Rattle.split_energies.proofs.ScanSteps.{scan_begun, scan_replaced, scan_kept, packing_of, up_of}
+use Rattle.split_energies.proofs.scans.scan.Goals as goal
+use Rattle.split_energies.proofs.scans.scan.Goals.{then-next-best, else-next-best}
 
 pub loop-k-init : goal.loop-k-init
 loop-k-init g c = λ x m. scan_begun (g.S.Surface.bounds c.args.surface.now) x c.half-best.result (c.half-best.ensures.at x m) (c.half-best.ensures.small x m)

@@ -9,10 +9,10 @@ use Rattle.std.proofs.lemmas.Int.{ints}
 use Rattle.case_types.specs.Arithmetic.Bounds.{Box}
 use Rattle.energy_surface.specs.Scans.{scan_packing}
 use Rattle.energy_surface.specs.Surfaces.{Surface}
-use Rattle.surface_rounds.specs.declared.scans.Scanned.{Scanned}
-use Rattle.surface_rounds.specs.Guessing.{IsInside}
-use Rattle.surface_rounds.specs.Scanned.{IsScannedBelow, state_at, lower_of, lowest_of}
-use Rattle.surface_rounds.proofs.Order.{last_or_before, no_less, at_most, through, less_through}
+use Rattle.split_energies.specs.declared.scans.Scanned.{Scanned}
+use Rattle.split_energies.specs.Scanned.{IsInside}
+use Rattle.split_energies.specs.Scanned.{IsScannedBelow, state_at, lower_of, lowest_of}
+use Rattle.split_energies.proofs.Order.{last_or_before, no_less, at_most, through, less_through}
 
 between : (a b : ℤ) → neg_ℤ (pos (2 ^ 49)) <ℤ a → a <ℤ b → unsigned_abs b < 2 ^ 49 → unsigned_abs a < 2 ^ 49
 between a b h k l = omega (arith, ints, h, k, l)

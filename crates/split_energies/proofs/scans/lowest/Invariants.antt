@@ -1,7 +1,7 @@
 use Rattle.std.proofs.Common.{◌≡◌, ◌^◌, ◌<◌, drop, unsigned_abs}
 use Rattle.case_types.specs.Arithmetic.Bounds.{Box}
-use Rattle.surface_rounds.specs.Scanned.{lowest_of}
-use Rattle.surface_rounds.proofs.scans.lowest.Given as goal
+use Rattle.split_energies.specs.Scanned.{lowest_of}
+use Rattle.split_energies.proofs.scans.lowest.Given as goal
 
 -- it is the lowest state of the last one and of those from this place on
 abbrev pub invariant-loop-k : goal.invariant-loop-k
