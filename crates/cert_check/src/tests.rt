@@ -399,20 +399,26 @@ fn text_of(
 ) -> Result<Vec<u8>, AllocError> {
     let mut text = Vec::new(alloc);
     for (i, line) in lines.iter().enumerate() {
-        text.extend_from_slice(changed(changes, i, line).as_bytes())?;
-        text.push(b'\n')?;
+        put_line(&mut text, i + 1, line, &*changes)?;
     }
     Ok(text)
 }
 
-/// The line at an index, or what it is changed to.
-fn changed<'a>(changes: &[(usize, &'a str)], i: usize, line: &'a str) -> &'a str {
-    for (place, new) in changes {
-        if *place - 1 == i {
-            return new;
+/// Appends the line of this number, or what it is changed to.
+fn put_line(
+    text: &mut Vec<u8>,
+    number: usize,
+    line: &str,
+    changes: &[(usize, &str)],
+) -> Result<(), AllocError> {
+    for (changed, new) in changes {
+        if *changed == number {
+            text.extend_from_slice(new.as_bytes())?;
+            return text.push(b'\n');
         }
     }
-    line
+    text.extend_from_slice(line.as_bytes())?;
+    text.push(b'\n')
 }
 
 /// Has both checkers judge a text, in pieces of 1 and of 4096 bytes.
