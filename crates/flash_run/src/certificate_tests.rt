@@ -252,6 +252,23 @@ fn ends_a_check_with_status_and_text(rt: HostRuntime) -> Result<(), Fail> {
     Ok(())
 }
 
+#[test]
+fn refuses_long_certificates(rt: HostRuntime) -> Result<(), Fail> {
+    let alloc = rt.alloc();
+    // A line without an end is cut at the limit, and with one byte more too long.
+    let cases: [(usize, u8, &str); 2] = [
+        (67_108_864, 9, "refused certificate Cut\n"),
+        (67_108_865, 11, "refused long\n"),
+    ];
+    for (length, want, text) in cases {
+        let input = vec![in alloc; b'a'; length]?;
+        let (status, sink) = run_in_pieces(alloc, "check", input, 4096, &[], &[])?;
+        assert_eq!(rt; status, want);
+        assert_eq!(rt; sink.held(), text.as_bytes());
+    }
+    Ok(())
+}
+
 /// Has each call of a run fail in turn, in pieces of 7 bytes; the source is called so often.
 fn fail_each_call(
     rt: &impl Abort,
