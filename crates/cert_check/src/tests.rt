@@ -414,11 +414,13 @@ fn put_line(
     for (changed, new) in changes {
         if *changed == number {
             text.extend_from_slice(new.as_bytes())?;
-            return text.push(b'\n');
+            text.push(b'\n')?;
+            return Ok(());
         }
     }
     text.extend_from_slice(line.as_bytes())?;
-    text.push(b'\n')
+    text.push(b'\n')?;
+    Ok(())
 }
 
 /// Has both checkers judge a text, in pieces of 1 and of 4096 bytes.
