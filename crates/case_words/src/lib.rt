@@ -5,6 +5,7 @@
 //! them once, in any order, but for the edition of the equation, which may be left out; `check` has none.
 #![tactic(auto)]
 
+mod boundaries;
 mod commands;
 mod faults;
 mod gathering;
@@ -17,6 +18,7 @@ mod reading;
 mod tests;
 mod words;
 
+pub use boundaries::{By, Side};
 pub use faults::WordFault;
 pub use jobs::{FlashWords, Job};
 pub use keys::Key;
