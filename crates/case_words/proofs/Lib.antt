@@ -6,4 +6,5 @@ pub mod Repeats
 pub mod Asking
 pub mod Steps
 pub mod Kept
+pub mod Unnamed
 pub mod Exports

@@ -1,6 +1,7 @@
 pub mod Answers
-pub mod Keys
+pub mod Quantities
 pub mod Commands
+pub mod Keys
 pub mod Names
 pub mod Items
 pub mod Counts
