@@ -14,12 +14,12 @@ use Rattle.case_words.specs.declared.keys.FlashKey.TheVariants.{Needed, Kappa}
 use Rattle.case_words.specs.declared.keys.Key.{Key}
 use Rattle.case_words.specs.declared.keys.Key.TheVariants.{T, P, Lo, Hi, Width, Z, Names, Tol, Budget}
 use Rattle.case_words.specs.declared.faults.WordFault.{WordFault}
-use Rattle.case_words.specs.declared.faults.WordFault.TheVariants.{Unknown, Twice, Range, Count}
+use Rattle.case_words.specs.declared.faults.WordFault.TheVariants.{Unknown, Twice}
 use Rattle.case_words.specs.Answers.{◌>>=◌, when, Answers}
 use Rattle.case_words.specs.Commands.{searched_by}
 use Rattle.case_words.specs.Keys.{key_of}
-use Rattle.case_words.specs.Counts.{is_as_many, count_of, are_ordered}
-use Rattle.case_words.specs.Items.{number_of, quantity_of, width_of, edition_of, parts_of, names_of}
+use Rattle.case_words.specs.Counts.{is_as_many}
+use Rattle.case_words.specs.Items.{number_of, quantity_of, width_of, edition_of}
 use Rattle.case_words.specs.Jobs.{Asked, EdgeAsked, Gathered, PlainTp, PlainCert, PlainCheck, PlainEdge, nothing, stands, is_equals, lo_of, hi_of, feed_of, called_of, with_needed, with_value, with_word, with_words, asked_of, edge_of, job_from, job_with}
 
 -- ---- the value of a key that must stand

@@ -1,14 +1,13 @@
 -- A search for a phase boundary isn't among the commands that have a name, so no words ask for one.
 use Rattle.std.proofs.Common.{◌≡◌, ℕ, List, [], ◌∷◌, Bool, true, false, refl, ap}
-use Rattle.std.specs.Prelude.{Option, Some, None, Result, Ok, Err, cond, codes}
+use Rattle.std.specs.Prelude.{Option, Some, None, Ok, cond, codes}
 use Rattle.std.specs.Str.{bytes_eq}
 use Rattle.case_words.specs.declared.boundaries.By.{By}
 use Rattle.case_words.specs.declared.boundaries.Side.{Side}
 use Rattle.case_words.specs.declared.commands.Command.{Command}
 use Rattle.case_words.specs.declared.commands.Command.TheVariants.{Tp, Cert, Check, Edge}
-use Rattle.case_words.specs.declared.faults.WordFault.{WordFault}
 use Rattle.case_words.specs.Commands.{command_of}
-use Rattle.case_words.specs.Jobs.{Asked, EdgeAsked, Gathered, PlainJob, PlainTp, PlainCert, PlainCheck, PlainEdge, nothing, with_words, asked_of, job_from, job_with, job_where, job_of}
+use Rattle.case_words.specs.Jobs.{Asked, EdgeAsked, Gathered, PlainTp, PlainCert, PlainCheck, PlainEdge, nothing, with_words, asked_of, job_from, job_with, job_where, job_of}
 use Rattle.case_words.proofs.Kept.{and_then_good, same_good}
 
 -- one of two, and neither is this

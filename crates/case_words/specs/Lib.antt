@@ -6,5 +6,6 @@ pub mod Names
 pub mod Items
 pub mod Counts
 pub mod Jobs
+pub mod Missing
 pub mod Views
 pub mod Keeping

@@ -68,14 +68,7 @@ impl Command {
 }
 
 /// The keys of a flash.
-const FLASH_KEYS: [Key; 6] = [
-    Key::T,
-    Key::P,
-    Key::Z,
-    Key::Names,
-    Key::Tol,
-    Key::Budget,
-];
+const FLASH_KEYS: [Key; 6] = [Key::T, Key::P, Key::Z, Key::Names, Key::Tol, Key::Budget];
 
 /// The keys of a search over the pressure.
 const PRESSURE_KEYS: [Key; 8] = [

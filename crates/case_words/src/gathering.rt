@@ -123,13 +123,7 @@ impl Given {
     }
 
     /// Takes the value of a key in the word at a place, in a search over this quantity.
-    fn set(
-        &mut self,
-        place: usize,
-        by: By,
-        key: FlashKey,
-        value: &[u8],
-    ) -> Result<(), WordFault>
+    fn set(&mut self, place: usize, by: By, key: FlashKey, value: &[u8]) -> Result<(), WordFault>
         ensures { Answers (λ _. gathered_of self.new) (with_value place by (gathered_of self.old) key value.now) result }
     {
         match key {
@@ -142,13 +136,7 @@ impl Given {
     }
 
     /// Takes the value of a key that must stand in the word at a place, in a search over this quantity.
-    fn set_needed(
-        &mut self,
-        place: usize,
-        by: By,
-        key: Key,
-        value: &[u8],
-    ) -> Result<(), WordFault>
+    fn set_needed(&mut self, place: usize, by: By, key: Key, value: &[u8]) -> Result<(), WordFault>
         ensures { Answers (λ _. gathered_of self.new) (with_needed place by (gathered_of self.old) key value.now) result }
     {
         match key {

@@ -61,7 +61,9 @@ impl Key {
     fn among(keys: &[Key], bytes: &[u8]) -> Option<Key>
         ensures { result ≡ key_among keys.now bytes.now }
     {
-        keys.iter().copied().find(|key| key.text().as_bytes() == bytes)
+        keys.iter()
+            .copied()
+            .find(|key| key.text().as_bytes() == bytes)
     }
 
     /// The key as it is spelled.

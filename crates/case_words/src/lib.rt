@@ -8,6 +8,8 @@
 
 mod boundaries;
 mod commands;
+#[cfg(test)]
+mod edge_tests;
 mod faults;
 mod gathering;
 mod items;

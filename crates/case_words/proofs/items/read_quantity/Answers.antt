@@ -1,6 +1,6 @@
-use Rattle.std.proofs.Common.{◌≡◌, ℕ, refl, ap, sym, ◌∙◌}
+use Rattle.std.proofs.Common.{ℕ, ap, sym, ◌∙◌}
 use Rattle.case_words.specs.Items.{number_of, quantity_of}
-use Rattle.case_words.specs.Quantities.{places_of, least, greatest}
+use Rattle.case_words.specs.Quantities.{least, greatest}
 use Rattle.case_words.proofs.Steps.{answers-same}
 use Rattle.case_words.proofs.items.read_quantity.Goals as goal
 

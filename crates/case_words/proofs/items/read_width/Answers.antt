@@ -1,4 +1,4 @@
-use Rattle.std.proofs.Common.{◌≡◌, ℕ, ap, sym}
+use Rattle.std.proofs.Common.{ℕ, ap, sym}
 use Rattle.case_words.specs.Items.{number_of, width_of}
 use Rattle.case_words.proofs.Steps.{answers-same}
 use Rattle.case_words.proofs.items.read_width.Goals as goal

@@ -1,10 +1,8 @@
-use Rattle.std.proofs.Common.{ℕ, List, length, map, true, false, ap, sym, ◌∙◌}
-use Rattle.std.specs.Prelude.{Ok, Err}
-use Rattle.std.proofs.lemmas.List.{length-map}
+use Rattle.std.proofs.Common.{ℕ, List, length, true, false, ap, ◌∙◌}
+use Rattle.std.specs.Prelude.{Err}
 use Rattle.std.proofs.lemmas.Result.{err_from_is_err_and}
 use Rattle.case_words.specs.declared.faults.WordFault.TheVariants.{Count}
 use Rattle.case_words.specs.Answers.{when}
-use Rattle.case_words.specs.Names.{text_of}
 use Rattle.case_words.specs.Counts.{is_as_many, count_of}
 use Rattle.case_words.specs.Items.{parts_of}
 use Rattle.case_words.specs.Jobs.{feed_of}

@@ -1,4 +1,3 @@
-use Rattle.std.proofs.Common.{◌≡◌}
 use Rattle.case_words.specs.Jobs.{asked_at, asked_of}
 use Rattle.case_words.specs.Views.{gathered_of, asked_by}
 use Rattle.case_words.proofs.Asking.{asked-without_t, asked-without_p, asked-there}
