@@ -1,5 +1,5 @@
 -- The text of a search for a phase boundary, which goes over the pressure or the temperature.
-use Rattle.std.specs.Prelude.{ℕ, ℤ, pos, List, ◌++◌, codes}
+use Rattle.std.specs.Prelude.{ℕ, pos, List, ◌++◌, codes}
 use Rattle.std.specs.Fmt.{decimal, signed_decimal}
 use Rattle.case_types.specs.declared.answers.Outcome.{Outcome}
 use Rattle.case_types.specs.declared.cases.ParamFault.{ParamFault}

@@ -5,6 +5,8 @@
 //! nothing. What the lines are stands in `specs/ReportText.antt`, `specs/VerdictText.antt` and `specs/EdgeText.antt`, byte for byte.
 #![tactic(auto)]
 
+#[cfg(test)]
+mod edge_tests;
 mod edge_texts;
 mod enclosures;
 mod ends;

@@ -7,8 +7,8 @@ ghost use Rattle.dec_text.specs.Appending.{Adds};
 ghost use Rattle.report_text.specs.Pieces.{texts_below};
 ghost use Rattle.report_text.specs.ReportText.{report_text, flash_text, conditions_text, split_text, phases_text, phase_text, part_text, part_of, parts_of, plane_text, potential_text};
 
-use crate::enclosures::put_enclosures;
 use crate::edge_texts::put_edge;
+use crate::enclosures::put_enclosures;
 use crate::ends::End;
 use crate::joules::millijoules;
 use crate::refusals::{put_case_fault, put_table_fault, put_word_fault};
