@@ -31,7 +31,7 @@ pub record KeepsEnds (by : By) (g : Gathered) : Type 0 where
   pub ordered : IsTrue (are_ordered g.lo g.hi)
   pub width : IsGivenWithin 1 4294967295 g.width
 
--- both
+-- all that words have given for a command that searches over this quantity
 pub record IsKept (by : By) (g : Gathered) : Type 0 where
   pub flash : KeepsFlash g
   pub ends : KeepsEnds by g

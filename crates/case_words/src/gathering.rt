@@ -283,16 +283,12 @@ impl Given {
         ensures at { IfOk result (λ words. (words.t ≡ t) × (words.p ≡ p)) }
     {
         let Given {
-            t: _,
-            p: _,
-            lo: _,
-            hi: _,
-            width: _,
             z,
             names,
             tol,
             budget,
             edition,
+            ..
         } = self;
         let Some(z) = z else {
             return Err(WordFault::Missing(Key::Z));
