@@ -5,21 +5,26 @@ use Rattle.std.specs.List.{list_all, sum, position_or_len, before_first, after_f
 use Rattle.std.proofs.lemmas.Bool.{eqb-true, eqb-false, and_parts, and_from, le-leb}
 use Rattle.case_types.specs.Ranges.{is_name_byte}
 use Rattle.case_types.specs.declared.cases.Edition.{Edition}
+use Rattle.case_words.specs.declared.boundaries.By.{By}
+use Rattle.case_words.specs.declared.boundaries.By.TheVariants.{Pressure, Temperature}
+use Rattle.case_words.specs.declared.commands.Command.{Command}
 use Rattle.case_words.specs.declared.keys.FlashKey.{FlashKey}
 use Rattle.case_words.specs.declared.keys.FlashKey.TheVariants.{Needed, Kappa}
 use Rattle.case_words.specs.declared.keys.Key.{Key}
-use Rattle.case_words.specs.declared.keys.Key.TheVariants.{T, P, Z, Names, Tol, Budget}
+use Rattle.case_words.specs.declared.keys.Key.TheVariants.{T, P, Lo, Hi, Width, Z, Names, Tol, Budget}
 use Rattle.case_words.specs.declared.faults.WordFault.{WordFault}
 use Rattle.case_words.specs.declared.faults.WordFault.TheVariants.{Unknown, Twice, Range, Count}
 use Rattle.dec_text.specs.Decimals.{decimal_of}
 use Rattle.dec_text.specs.declared.faults.DecFault.{DecFault}
 use Rattle.dec_text.specs.declared.faults.DecFault.TheVariants.{Empty, Digit}
 use Rattle.case_words.specs.Answers.{◌>>=◌, when, each_of}
+use Rattle.case_words.specs.Commands.{searched_by}
 use Rattle.case_words.specs.Keys.{key_of}
 use Rattle.case_words.specs.Names.{name_of, is_name_length, are_different}
-use Rattle.case_words.specs.Counts.{is_as_many, count_of}
-use Rattle.case_words.specs.Items.{valued, is_within, number_of, edition_of, parts_of, names_of, items_of, up_to_four}
-use Rattle.case_words.specs.Jobs.{Gathered, nothing, stands, is_equals, with_needed, with_value, with_key, with_word}
+use Rattle.case_words.specs.Counts.{is_as_many, count_of, are_ordered}
+use Rattle.case_words.specs.Quantities.{places_of, least, greatest}
+use Rattle.case_words.specs.Items.{valued, is_within, number_of, quantity_of, width_of, edition_of, parts_of, names_of, items_of, up_to_four}
+use Rattle.case_words.specs.Jobs.{Gathered, nothing, stands, is_equals, lo_of, hi_of, feed_of, called_of, with_needed, with_value, with_key, with_word}
 use Rattle.case_words.specs.Keeping.{IsKept}
 
 -- ---- results that are good
@@ -54,6 +59,14 @@ number-within place places low high text n e =
     let step = and_then_good (valued place (decimal_of places (10 ^ 15) text)) (λ (m : ℕ). when (is_within low high m) m (Range place)) n e in
     let good = when_good (is_within low high step.0) step.0 n (Range place) step.2 in
     ap (is_within low high) (sym good.1) ∙ good.0
+
+quantity-within : (place : ℕ) (by : By) (text : List ℕ) (n : ℕ) → quantity_of place by text ≡ Ok n → is_within (least by) (greatest by) n ≡ true
+unfolding quantity_of
+quantity-within place by text n e = number-within place (places_of by) (least by) (greatest by) text n e
+
+width-within : (place : ℕ) (by : By) (text : List ℕ) (n : ℕ) → width_of place by text ≡ Ok n → is_within 1 4294967295 n ≡ true
+unfolding width_of
+width-within place by text n e = number-within place (places_of by) 1 4294967295 text n e
 
 parts-within : (place : ℕ) (text parts : List ℕ) → parts_of place text ≡ Ok parts → is_within 1 1048576 (sum parts) ≡ true
 unfolding parts_of
@@ -103,6 +116,42 @@ names-long place text names e =
     ap (list_all is_name_length) (sym good.1)
     ∙ each-good read is_name_length (items_of text) step.0 (λ item name h. name-long item name (valued-good place (name_of item) name h)) all
 
+-- ---- ends and lists that passed their test
+tested-good : {A F : Type 0} (r : Result A F) (test : A → Bool) (fault : F) (x : A) → (r >>= (λ y. when (test y) y fault)) ≡ Ok x
+    → (r ≡ Ok x) × (test x ≡ true)
+tested-good (Ok y) test fault x e =
+    let good = when_good (test y) y x fault e in
+    (ap Ok good.1, ap test (sym good.1) ∙ good.0)
+tested-good (Err other) test fault x e = absurd (cc)
+
+lo-kept : (place : ℕ) (by : By) (g : Gathered) (text : List ℕ) (n : ℕ) → lo_of place by g text ≡ Ok n
+    → (is_within (least by) (greatest by) n ≡ true) × (are_ordered (Some n) g.hi ≡ true)
+unfolding lo_of
+lo-kept place by g text n e =
+    let good = tested-good (quantity_of place by text) (λ (m : ℕ). are_ordered (Some m) g.hi) (Range place) n e in
+    (quantity-within place by text n good.0, good.1)
+
+hi-kept : (place : ℕ) (by : By) (g : Gathered) (text : List ℕ) (n : ℕ) → hi_of place by g text ≡ Ok n
+    → (is_within (least by) (greatest by) n ≡ true) × (are_ordered g.lo (Some n) ≡ true)
+unfolding hi_of
+hi-kept place by g text n e =
+    let good = tested-good (quantity_of place by text) (λ (m : ℕ). are_ordered g.lo (Some m)) (Range place) n e in
+    (quantity-within place by text n good.0, good.1)
+
+feed-kept : (place : ℕ) (g : Gathered) (text parts : List ℕ) → feed_of place g text ≡ Ok parts
+    → (is_within 1 1048576 (sum parts) ≡ true) × (is_as_many (length parts) (count_of g.names) ≡ true)
+unfolding feed_of
+feed-kept place g text parts e =
+    let good = tested-good (parts_of place text) (λ (zs : List ℕ). is_as_many (length zs) (count_of g.names)) (Count place) parts e in
+    (parts-within place text parts good.0, good.1)
+
+called-kept : (place : ℕ) (g : Gathered) (text : List ℕ) (names : List (List ℕ)) → called_of place g text ≡ Ok names
+    → (are_different names ≡ true) × (list_all is_name_length names ≡ true) × (is_as_many (length names) (count_of g.z) ≡ true)
+unfolding called_of
+called-kept place g text names e =
+    let good = tested-good (names_of place text) (λ (ns : List (List ℕ)). is_as_many (length ns) (count_of g.z)) (Count place) names e in
+    (names-differ place text names good.0, names-long place text names good.0, good.1)
+
 same_count : {A B : Type 0} (xs : List A) (others : Option (List B)) → is_as_many (length xs) (count_of others) ≡ true → IfSome others (λ ys. length xs ≡ length ys)
 same_count xs None e = tt
 same_count xs (Some ys) e = eqb-true (length xs) (length ys) e
@@ -112,52 +161,73 @@ same_count_back xs None e = tt
 same_count_back xs (Some ys) e = sym (eqb-true (length xs) (length ys) e)
 
 -- ---- the first word finds nothing to keep
-pub kept-nothing : IsKept nothing
-kept-nothing = record { t = tt; p = tt; total = tt; differ = tt; named = tt; as_many = tt; tol = tt; budget = tt }
+pub kept-nothing : (by : By) → IsKept by nothing
+kept-nothing by = record { flash = record { t = tt; p = tt; total = tt; differ = tt; named = tt; as_many = tt; tol = tt; budget = tt }; ends = record { lo = tt; hi = tt; ordered = refl; width = tt } }
 
 -- ---- a word keeps it
-kept-needed : (place : ℕ) (g more : Gathered) (key : Key) (value : List ℕ) → with_needed place g key value ≡ Ok more → IsKept g → IsKept more
+kept-needed : (place : ℕ) (by : By) (g more : Gathered) (key : Key) (value : List ℕ) → with_needed place by g key value ≡ Ok more
+    → IsKept by g → IsKept by more
 unfolding with_needed
-kept-needed place g more T value e k =
-    let step = and_then_good (number_of place 3 50000 1500000 value) (λ (n : ℕ). Ok (record g { t = Some n })) more e in
+kept-needed place by g more T value e k =
+    let step = and_then_good (quantity_of place Temperature value) (λ (n : ℕ). Ok (record g { t = Some n })) more e in
     let is : record g { t = Some step.0 } ≡ more = same_good (record g { t = Some step.0 }) more step.2 in
-    subst IsKept is (record { t = number-within place 3 50000 1500000 value step.0 step.1; p = k.p; total = k.total; differ = k.differ; named = k.named; as_many = k.as_many; tol = k.tol; budget = k.budget })
-kept-needed place g more P value e k =
-    let step = and_then_good (number_of place 0 1000 100000000 value) (λ (n : ℕ). Ok (record g { p = Some n })) more e in
+    subst (IsKept by) is (record { flash = record { t = quantity-within place Temperature value step.0 step.1; p = k.flash.p; total = k.flash.total; differ = k.flash.differ; named = k.flash.named; as_many = k.flash.as_many; tol = k.flash.tol; budget = k.flash.budget }; ends = record { lo = k.ends.lo; hi = k.ends.hi; ordered = k.ends.ordered; width = k.ends.width } })
+kept-needed place by g more P value e k =
+    let step = and_then_good (quantity_of place Pressure value) (λ (n : ℕ). Ok (record g { p = Some n })) more e in
     let is : record g { p = Some step.0 } ≡ more = same_good (record g { p = Some step.0 }) more step.2 in
-    subst IsKept is (record { t = k.t; p = number-within place 0 1000 100000000 value step.0 step.1; total = k.total; differ = k.differ; named = k.named; as_many = k.as_many; tol = k.tol; budget = k.budget })
-kept-needed place g more Z value e k =
-    let step = and_then_good (parts_of place value) (λ (zs : List ℕ). when (is_as_many (length zs) (count_of g.names)) (record g { z = Some zs }) (Count place)) more e in
-    let good = when_good (is_as_many (length step.0) (count_of g.names)) (record g { z = Some step.0 }) more (Count place) step.2 in
-    subst IsKept good.1 (record { t = k.t; p = k.p; total = parts-within place value step.0 step.1; differ = k.differ; named = k.named; as_many = same_count step.0 g.names good.0; tol = k.tol; budget = k.budget })
-kept-needed place g more Names value e k =
-    let step = and_then_good (names_of place value) (λ (ns : List (List ℕ)). when (is_as_many (length ns) (count_of g.z)) (record g { names = Some ns }) (Count place)) more e in
-    let good = when_good (is_as_many (length step.0) (count_of g.z)) (record g { names = Some step.0 }) more (Count place) step.2 in
-    subst IsKept good.1 (record { t = k.t; p = k.p; total = k.total; differ = names-differ place value step.0 step.1; named = names-long place value step.0 step.1; as_many = same_count_back step.0 g.z good.0; tol = k.tol; budget = k.budget })
-kept-needed place g more Tol value e k =
+    subst (IsKept by) is (record { flash = record { t = k.flash.t; p = quantity-within place Pressure value step.0 step.1; total = k.flash.total; differ = k.flash.differ; named = k.flash.named; as_many = k.flash.as_many; tol = k.flash.tol; budget = k.flash.budget }; ends = record { lo = k.ends.lo; hi = k.ends.hi; ordered = k.ends.ordered; width = k.ends.width } })
+kept-needed place by g more Lo value e k =
+    let step = and_then_good (lo_of place by g value) (λ (n : ℕ). Ok (record g { lo = Some n })) more e in
+    let is : record g { lo = Some step.0 } ≡ more = same_good (record g { lo = Some step.0 }) more step.2 in
+    let kept = lo-kept place by g value step.0 step.1 in
+    subst (IsKept by) is (record { flash = record { t = k.flash.t; p = k.flash.p; total = k.flash.total; differ = k.flash.differ; named = k.flash.named; as_many = k.flash.as_many; tol = k.flash.tol; budget = k.flash.budget }; ends = record { lo = kept.0; hi = k.ends.hi; ordered = kept.1; width = k.ends.width } })
+kept-needed place by g more Hi value e k =
+    let step = and_then_good (hi_of place by g value) (λ (n : ℕ). Ok (record g { hi = Some n })) more e in
+    let is : record g { hi = Some step.0 } ≡ more = same_good (record g { hi = Some step.0 }) more step.2 in
+    let kept = hi-kept place by g value step.0 step.1 in
+    subst (IsKept by) is (record { flash = record { t = k.flash.t; p = k.flash.p; total = k.flash.total; differ = k.flash.differ; named = k.flash.named; as_many = k.flash.as_many; tol = k.flash.tol; budget = k.flash.budget }; ends = record { lo = k.ends.lo; hi = kept.0; ordered = kept.1; width = k.ends.width } })
+kept-needed place by g more Width value e k =
+    let step = and_then_good (width_of place by value) (λ (n : ℕ). Ok (record g { width = Some n })) more e in
+    let is : record g { width = Some step.0 } ≡ more = same_good (record g { width = Some step.0 }) more step.2 in
+    subst (IsKept by) is (record { flash = record { t = k.flash.t; p = k.flash.p; total = k.flash.total; differ = k.flash.differ; named = k.flash.named; as_many = k.flash.as_many; tol = k.flash.tol; budget = k.flash.budget }; ends = record { lo = k.ends.lo; hi = k.ends.hi; ordered = k.ends.ordered; width = width-within place by value step.0 step.1 } })
+kept-needed place by g more Z value e k =
+    let step = and_then_good (feed_of place g value) (λ (zs : List ℕ). Ok (record g { z = Some zs })) more e in
+    let is : record g { z = Some step.0 } ≡ more = same_good (record g { z = Some step.0 }) more step.2 in
+    let kept = feed-kept place g value step.0 step.1 in
+    subst (IsKept by) is (record { flash = record { t = k.flash.t; p = k.flash.p; total = kept.0; differ = k.flash.differ; named = k.flash.named; as_many = same_count step.0 g.names kept.1; tol = k.flash.tol; budget = k.flash.budget }; ends = record { lo = k.ends.lo; hi = k.ends.hi; ordered = k.ends.ordered; width = k.ends.width } })
+kept-needed place by g more Names value e k =
+    let step = and_then_good (called_of place g value) (λ (ns : List (List ℕ)). Ok (record g { names = Some ns })) more e in
+    let is : record g { names = Some step.0 } ≡ more = same_good (record g { names = Some step.0 }) more step.2 in
+    let kept = called-kept place g value step.0 step.1 in
+    subst (IsKept by) is (record { flash = record { t = k.flash.t; p = k.flash.p; total = k.flash.total; differ = kept.0; named = kept.1; as_many = same_count_back step.0 g.z kept.2; tol = k.flash.tol; budget = k.flash.budget }; ends = record { lo = k.ends.lo; hi = k.ends.hi; ordered = k.ends.ordered; width = k.ends.width } })
+kept-needed place by g more Tol value e k =
     let step = and_then_good (number_of place 0 128 1048576 value) (λ (n : ℕ). Ok (record g { tol = Some n })) more e in
     let is : record g { tol = Some step.0 } ≡ more = same_good (record g { tol = Some step.0 }) more step.2 in
-    subst IsKept is (record { t = k.t; p = k.p; total = k.total; differ = k.differ; named = k.named; as_many = k.as_many; tol = number-within place 0 128 1048576 value step.0 step.1; budget = k.budget })
-kept-needed place g more Budget value e k =
+    subst (IsKept by) is (record { flash = record { t = k.flash.t; p = k.flash.p; total = k.flash.total; differ = k.flash.differ; named = k.flash.named; as_many = k.flash.as_many; tol = number-within place 0 128 1048576 value step.0 step.1; budget = k.flash.budget }; ends = record { lo = k.ends.lo; hi = k.ends.hi; ordered = k.ends.ordered; width = k.ends.width } })
+kept-needed place by g more Budget value e k =
     let step = and_then_good (number_of place 0 1 10000000 value) (λ (n : ℕ). Ok (record g { budget = Some n })) more e in
     let is : record g { budget = Some step.0 } ≡ more = same_good (record g { budget = Some step.0 }) more step.2 in
-    subst IsKept is (record { t = k.t; p = k.p; total = k.total; differ = k.differ; named = k.named; as_many = k.as_many; tol = k.tol; budget = number-within place 0 1 10000000 value step.0 step.1 })
+    subst (IsKept by) is (record { flash = record { t = k.flash.t; p = k.flash.p; total = k.flash.total; differ = k.flash.differ; named = k.flash.named; as_many = k.flash.as_many; tol = k.flash.tol; budget = number-within place 0 1 10000000 value step.0 step.1 }; ends = record { lo = k.ends.lo; hi = k.ends.hi; ordered = k.ends.ordered; width = k.ends.width } })
 
-kept-value : (place : ℕ) (g more : Gathered) (key : FlashKey) (value : List ℕ) → with_value place g key value ≡ Ok more → IsKept g → IsKept more
+kept-value : (place : ℕ) (by : By) (g more : Gathered) (key : FlashKey) (value : List ℕ) → with_value place by g key value ≡ Ok more
+    → IsKept by g → IsKept by more
 unfolding with_value
-kept-value place g more (Needed key) value e k = kept-needed place g more key value e k
-kept-value place g more Kappa value e k =
+kept-value place by g more (Needed key) value e k = kept-needed place by g more key value e k
+kept-value place by g more Kappa value e k =
     let step = and_then_good (edition_of place value) (λ (edition : Edition). Ok (record g { edition = Some edition })) more e in
     let is : record g { edition = Some step.0 } ≡ more = same_good (record g { edition = Some step.0 }) more step.2 in
-    subst IsKept is (record { t = k.t; p = k.p; total = k.total; differ = k.differ; named = k.named; as_many = k.as_many; tol = k.tol; budget = k.budget })
+    subst (IsKept by) is (record { flash = record { t = k.flash.t; p = k.flash.p; total = k.flash.total; differ = k.flash.differ; named = k.flash.named; as_many = k.flash.as_many; tol = k.flash.tol; budget = k.flash.budget }; ends = record { lo = k.ends.lo; hi = k.ends.hi; ordered = k.ends.ordered; width = k.ends.width } })
 
-kept-key : (place : ℕ) (g more : Gathered) (key : Option FlashKey) (value : List ℕ) → with_key place g key value ≡ Ok more → IsKept g → IsKept more
-kept-key place g more None value e k = absurd (cc)
-kept-key place g more (Some key) value e k =
-    kept-value place g more key value (unless_good (stands g key) (with_value place g key value) more (Twice place) e) k
+kept-key : (place : ℕ) (by : By) (g more : Gathered) (key : Option FlashKey) (value : List ℕ) → with_key place by g key value ≡ Ok more
+    → IsKept by g → IsKept by more
+kept-key place by g more None value e k = absurd (cc)
+kept-key place by g more (Some key) value e k =
+    kept-value place by g more key value (unless_good (stands g key) (with_value place by g key value) more (Twice place) e) k
 
-pub kept-word : (place : ℕ) (g more : Gathered) (word : List ℕ) → with_word place g word ≡ Ok more → IsKept g → IsKept more
+pub kept-word : (command : Command) (place : ℕ) (g more : Gathered) (word : List ℕ) → with_word command place g word ≡ Ok more
+    → IsKept (searched_by command) g → IsKept (searched_by command) more
 unfolding with_word
-kept-word place g more word e k =
-    kept-key place g more (key_of (before_first is_equals word)) (after_first is_equals word)
-    (if_good (nat_lt (position_or_len is_equals word) (length word)) (with_key place g (key_of (before_first is_equals word)) (after_first is_equals word)) more (Unknown place) e) k
+kept-word command place g more word e k =
+    let key = key_of command (before_first is_equals word) in
+    kept-key place (searched_by command) g more key (after_first is_equals word)
+    (if_good (nat_lt (position_or_len is_equals word) (length word)) (with_key place (searched_by command) g key (after_first is_equals word)) more (Unknown place) e) k

@@ -6,4 +6,6 @@ pub mod Repeats
 pub mod Asking
 pub mod Steps
 pub mod Kept
+pub mod FirstKey
+pub mod Unnamed
 pub mod Exports

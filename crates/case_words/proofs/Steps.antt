@@ -4,123 +4,157 @@ use Rattle.std.specs.Prelude.{Option, Some, None, Result, Ok, Err, nat_lt}
 use Rattle.std.specs.List.{position_or_len, before_first, after_first}
 use Rattle.std.proofs.lemmas.List.{drop_more, drop_all}
 use Rattle.case_types.specs.declared.cases.Edition.{Edition}
+use Rattle.case_words.specs.declared.boundaries.By.{By}
+use Rattle.case_words.specs.declared.boundaries.By.TheVariants.{Pressure, Temperature}
+use Rattle.case_words.specs.declared.boundaries.Side.{Side}
+use Rattle.case_words.specs.declared.commands.Command.{Command}
+use Rattle.case_words.specs.declared.commands.Command.TheVariants.{Tp, Cert, Check, Edge}
 use Rattle.case_words.specs.declared.keys.FlashKey.{FlashKey}
 use Rattle.case_words.specs.declared.keys.FlashKey.TheVariants.{Needed, Kappa}
 use Rattle.case_words.specs.declared.keys.Key.{Key}
-use Rattle.case_words.specs.declared.keys.Key.TheVariants.{T, P, Z, Names, Tol, Budget}
+use Rattle.case_words.specs.declared.keys.Key.TheVariants.{T, P, Lo, Hi, Width, Z, Names, Tol, Budget}
 use Rattle.case_words.specs.declared.faults.WordFault.{WordFault}
-use Rattle.case_words.specs.declared.faults.WordFault.TheVariants.{Unknown, Twice, Count}
-use Rattle.case_words.specs.Answers.{◌>>=◌, Answers}
+use Rattle.case_words.specs.declared.faults.WordFault.TheVariants.{Unknown, Twice}
+use Rattle.case_words.specs.Answers.{◌>>=◌, when, Answers}
+use Rattle.case_words.specs.Commands.{searched_by}
 use Rattle.case_words.specs.Keys.{key_of}
-use Rattle.case_words.specs.Counts.{is_as_many, count_of}
-use Rattle.case_words.specs.Items.{number_of, edition_of, parts_of, names_of}
-use Rattle.case_words.specs.Jobs.{Gathered, nothing, stands, is_equals, with_needed, with_value, with_word, with_words, asked_of, flash_of}
+use Rattle.case_words.specs.Counts.{is_as_many}
+use Rattle.case_words.specs.Items.{number_of, quantity_of, width_of, edition_of}
+use Rattle.case_words.specs.Jobs.{Asked, EdgeAsked, Gathered, PlainTp, PlainCert, PlainCheck, PlainEdge, nothing, stands, is_equals, lo_of, hi_of, feed_of, called_of, with_needed, with_value, with_word, with_words, asked_of, edge_of, job_from, job_with}
 
 -- ---- the value of a key that must stand
-pub value-t : (place : ℕ) (g : Gathered) (value : List ℕ) (r : Result ℕ WordFault) → number_of place 3 50000 1500000 value ≡ r
-    → with_needed place g T value ≡ (r >>= (λ t. Ok (record g { t = Some t })))
+pub value-t : (place : ℕ) (by : By) (g : Gathered) (value : List ℕ) (r : Result ℕ WordFault) → quantity_of place Temperature value ≡ r
+    → with_needed place by g T value ≡ (r >>= (λ n. Ok (record g { t = Some n })))
 unfolding with_needed
-value-t place g value r e = rw e refl
+value-t place by g value r e = rw e refl
 
-pub value-p : (place : ℕ) (g : Gathered) (value : List ℕ) (r : Result ℕ WordFault) → number_of place 0 1000 100000000 value ≡ r
-    → with_needed place g P value ≡ (r >>= (λ p. Ok (record g { p = Some p })))
+pub value-p : (place : ℕ) (by : By) (g : Gathered) (value : List ℕ) (r : Result ℕ WordFault) → quantity_of place Pressure value ≡ r
+    → with_needed place by g P value ≡ (r >>= (λ n. Ok (record g { p = Some n })))
 unfolding with_needed
-value-p place g value r e = rw e refl
+value-p place by g value r e = rw e refl
 
-pub value-tol : (place : ℕ) (g : Gathered) (value : List ℕ) (r : Result ℕ WordFault) → number_of place 0 128 1048576 value ≡ r
-    → with_needed place g Tol value ≡ (r >>= (λ tol. Ok (record g { tol = Some tol })))
+pub value-lo : (place : ℕ) (by : By) (g : Gathered) (value : List ℕ) (r : Result ℕ WordFault) → lo_of place by g value ≡ r
+    → with_needed place by g Lo value ≡ (r >>= (λ n. Ok (record g { lo = Some n })))
 unfolding with_needed
-value-tol place g value r e = rw e refl
+value-lo place by g value r e = rw e refl
 
-pub value-budget : (place : ℕ) (g : Gathered) (value : List ℕ) (r : Result ℕ WordFault) → number_of place 0 1 10000000 value ≡ r
-    → with_needed place g Budget value ≡ (r >>= (λ budget. Ok (record g { budget = Some budget })))
+pub value-hi : (place : ℕ) (by : By) (g : Gathered) (value : List ℕ) (r : Result ℕ WordFault) → hi_of place by g value ≡ r
+    → with_needed place by g Hi value ≡ (r >>= (λ n. Ok (record g { hi = Some n })))
 unfolding with_needed
-value-budget place g value r e = rw e refl
+value-hi place by g value r e = rw e refl
 
-pub value-z_fault : (place : ℕ) (g : Gathered) (value : List ℕ) (fault : WordFault) → parts_of place value ≡ Err fault → with_needed place g Z value ≡ Err fault
+pub value-width : (place : ℕ) (by : By) (g : Gathered) (value : List ℕ) (r : Result ℕ WordFault) → width_of place by value ≡ r
+    → with_needed place by g Width value ≡ (r >>= (λ n. Ok (record g { width = Some n })))
 unfolding with_needed
-value-z_fault place g value fault e = rw e refl
+value-width place by g value r e = rw e refl
 
-pub value-z_count : (place : ℕ) (g : Gathered) (value parts : List ℕ) → parts_of place value ≡ Ok parts
-    → is_as_many (length parts) (count_of g.names) ≡ false → with_needed place g Z value ≡ Err (Count place)
+pub value-z : (place : ℕ) (by : By) (g : Gathered) (value : List ℕ) (r : Result (List ℕ) WordFault) → feed_of place g value ≡ r
+    → with_needed place by g Z value ≡ (r >>= (λ n. Ok (record g { z = Some n })))
 unfolding with_needed
-value-z_count place g value parts e other = rw (e, other) refl
+value-z place by g value r e = rw e refl
 
-pub value-z : (place : ℕ) (g : Gathered) (value parts : List ℕ) → parts_of place value ≡ Ok parts
-    → is_as_many (length parts) (count_of g.names) ≡ true → with_needed place g Z value ≡ Ok (record g { z = Some parts })
+pub value-names : (place : ℕ) (by : By) (g : Gathered) (value : List ℕ) (r : Result (List (List ℕ)) WordFault) → called_of place g value ≡ r
+    → with_needed place by g Names value ≡ (r >>= (λ n. Ok (record g { names = Some n })))
 unfolding with_needed
-value-z place g value parts e same = rw (e, same) refl
+value-names place by g value r e = rw e refl
 
-pub value-names_fault : (place : ℕ) (g : Gathered) (value : List ℕ) (fault : WordFault) → names_of place value ≡ Err fault
-    → with_needed place g Names value ≡ Err fault
+pub value-tol : (place : ℕ) (by : By) (g : Gathered) (value : List ℕ) (r : Result ℕ WordFault) → number_of place 0 128 1048576 value ≡ r
+    → with_needed place by g Tol value ≡ (r >>= (λ n. Ok (record g { tol = Some n })))
 unfolding with_needed
-value-names_fault place g value fault e = rw e refl
+value-tol place by g value r e = rw e refl
 
-pub value-names_count : (place : ℕ) (g : Gathered) (value : List ℕ) (names : List (List ℕ)) → names_of place value ≡ Ok names
-    → is_as_many (length names) (count_of g.z) ≡ false → with_needed place g Names value ≡ Err (Count place)
+pub value-budget : (place : ℕ) (by : By) (g : Gathered) (value : List ℕ) (r : Result ℕ WordFault) → number_of place 0 1 10000000 value ≡ r
+    → with_needed place by g Budget value ≡ (r >>= (λ n. Ok (record g { budget = Some n })))
 unfolding with_needed
-value-names_count place g value names e other = rw (e, other) refl
+value-budget place by g value r e = rw e refl
 
-pub value-names : (place : ℕ) (g : Gathered) (value : List ℕ) (names : List (List ℕ)) → names_of place value ≡ Ok names
-    → is_as_many (length names) (count_of g.z) ≡ true → with_needed place g Names value ≡ Ok (record g { names = Some names })
-unfolding with_needed
-value-names place g value names e same = rw (e, same) refl
+-- ---- an end or a list that is read, and then a test
+pub tested-fault : {A B F : Type 0} (r : Result A F) (f : A → Result B F) (fault : F) → r ≡ Err fault → (r >>= f) ≡ Err fault
+tested-fault r f fault e = rw e refl
+
+pub tested : {A F : Type 0} (r : Result A F) (test : A → Bool) (a : A) (fault : F) (b : Bool) → r ≡ Ok a → test a ≡ b
+    → (r >>= (λ x. when (test x) x fault)) ≡ when b a fault
+tested r test a fault b e is = rw (e, is) refl
 
 -- ---- the value of any key
-pub value-needed : (place : ℕ) (g : Gathered) (key : Key) (value : List ℕ) → with_value place g (Needed key) value ≡ with_needed place g key value
+pub value-needed : (place : ℕ) (by : By) (g : Gathered) (key : Key) (value : List ℕ)
+    → with_value place by g (Needed key) value ≡ with_needed place by g key value
 unfolding with_value
-value-needed place g key value = refl
+value-needed place by g key value = refl
 
-pub value-kappa : (place : ℕ) (g : Gathered) (value : List ℕ) (r : Result Edition WordFault) → edition_of place value ≡ r
-    → with_value place g Kappa value ≡ (r >>= (λ edition. Ok (record g { edition = Some edition })))
+pub value-kappa : (place : ℕ) (by : By) (g : Gathered) (value : List ℕ) (r : Result Edition WordFault) → edition_of place value ≡ r
+    → with_value place by g Kappa value ≡ (r >>= (λ edition. Ok (record g { edition = Some edition })))
 unfolding with_value
-value-kappa place g value r e = rw e refl
+value-kappa place by g value r e = rw e refl
 
 -- ---- the word
-pub word-without_equals : (place : ℕ) (g : Gathered) (word : List ℕ) → nat_lt (position_or_len is_equals word) (length word) ≡ false
-    → with_word place g word ≡ Err (Unknown place)
+pub word-without_equals : (command : Command) (place : ℕ) (g : Gathered) (word : List ℕ)
+    → nat_lt (position_or_len is_equals word) (length word) ≡ false → with_word command place g word ≡ Err (Unknown place)
 unfolding with_word
-word-without_equals place g word e = rw e refl
+word-without_equals command place g word e = rw e refl
 
-pub word-unknown : (place : ℕ) (g : Gathered) (word : List ℕ) → nat_lt (position_or_len is_equals word) (length word) ≡ true
-    → key_of (before_first is_equals word) ≡ None → with_word place g word ≡ Err (Unknown place)
+pub word-unknown : (command : Command) (place : ℕ) (g : Gathered) (word : List ℕ)
+    → nat_lt (position_or_len is_equals word) (length word) ≡ true → key_of command (before_first is_equals word) ≡ None
+    → with_word command place g word ≡ Err (Unknown place)
 unfolding with_word
-word-unknown place g word e none = rw (e, none) refl
+word-unknown command place g word e none = rw (e, none) refl
 
-pub word-twice : (place : ℕ) (g : Gathered) (word : List ℕ) (key : FlashKey) → nat_lt (position_or_len is_equals word) (length word) ≡ true
-    → key_of (before_first is_equals word) ≡ Some key → stands g key ≡ true → with_word place g word ≡ Err (Twice place)
+pub word-twice : (command : Command) (place : ℕ) (g : Gathered) (word : List ℕ) (key : FlashKey)
+    → nat_lt (position_or_len is_equals word) (length word) ≡ true → key_of command (before_first is_equals word) ≡ Some key
+    → stands g key ≡ true → with_word command place g word ≡ Err (Twice place)
 unfolding with_word
-word-twice place g word key e is there = rw (e, is, there) refl
+word-twice command place g word key e is there = rw (e, is, there) refl
 
-pub word-value : (place : ℕ) (g : Gathered) (word : List ℕ) (key : FlashKey) → nat_lt (position_or_len is_equals word) (length word) ≡ true
-    → key_of (before_first is_equals word) ≡ Some key → stands g key ≡ false
-    → with_word place g word ≡ with_value place g key (after_first is_equals word)
+pub word-value : (command : Command) (place : ℕ) (g : Gathered) (word : List ℕ) (key : FlashKey)
+    → nat_lt (position_or_len is_equals word) (length word) ≡ true → key_of command (before_first is_equals word) ≡ Some key
+    → stands g key ≡ false → with_word command place g word ≡ with_value place (searched_by command) g key (after_first is_equals word)
 unfolding with_word
-word-value place g word key e is new = rw (e, is, new) refl
+word-value command place g word key e is new = rw (e, is, new) refl
 
 -- ---- the words
-pub words-more : (place : ℕ) (g more : Gathered) (words : List (List ℕ)) (i : ℕ) → i < length words → with_word place g (get_or words i []) ≡ Ok more
-    → with_words place g (drop i words) ≡ with_words (place + 1) more (drop (i + 1) words)
+pub words-more : (command : Command) (place : ℕ) (g more : Gathered) (words : List (List ℕ)) (i : ℕ) → i < length words
+    → with_word command place g (get_or words i []) ≡ Ok more
+    → with_words command place g (drop i words) ≡ with_words command (place + 1) more (drop (i + 1) words)
 unfolding with_words
-words-more place g more words i inside e = rw (drop_more words i [] inside, e) refl
+words-more command place g more words i inside e = rw (drop_more words i [] inside, e) refl
 
-pub words-stop : (place : ℕ) (g : Gathered) (words : List (List ℕ)) (i : ℕ) (fault : WordFault) → i < length words
-    → with_word place g (get_or words i []) ≡ Err fault → with_words place g (drop i words) ≡ Err fault
+pub words-stop : (command : Command) (place : ℕ) (g : Gathered) (words : List (List ℕ)) (i : ℕ) (fault : WordFault) → i < length words
+    → with_word command place g (get_or words i []) ≡ Err fault → with_words command place g (drop i words) ≡ Err fault
 unfolding with_words
-words-stop place g words i fault inside e = rw (drop_more words i [] inside, e) refl
+words-stop command place g words i fault inside e = rw (drop_more words i [] inside, e) refl
 
-pub words-end : (place : ℕ) (g : Gathered) (words : List (List ℕ)) (i : ℕ) → length words ≤ i → with_words place g (drop i words) ≡ Ok g
+pub words-end : (command : Command) (place : ℕ) (g : Gathered) (words : List (List ℕ)) (i : ℕ) → length words ≤ i
+    → with_words command place g (drop i words) ≡ Ok g
 unfolding with_words
-words-end place g words i end = rw (drop_all i words end) refl
+words-end command place g words i end = rw (drop_all i words end) refl
 
--- ---- what a flash asks
-pub flash-fault : (words : List (List ℕ)) (fault : WordFault) → with_words 2 nothing words ≡ Err fault → flash_of words ≡ Err fault
-unfolding flash_of
-flash-fault words fault e = rw e refl
+-- ---- the job of a command
+pub job-fault : (command : Command) (words : List (List ℕ)) (fault : WordFault) → with_words command 2 nothing words ≡ Err fault
+    → job_with command words ≡ Err fault
+unfolding job_with
+job-fault command words fault e = rw e refl
 
-pub flash-whole : (words : List (List ℕ)) (g : Gathered) → with_words 2 nothing words ≡ Ok g → flash_of words ≡ asked_of g
-unfolding flash_of
-flash-whole words g e = rw e refl
+pub job-whole : (command : Command) (words : List (List ℕ)) (g : Gathered) → with_words command 2 nothing words ≡ Ok g
+    → job_with command words ≡ job_from command g
+unfolding job_with
+job-whole command words g e = rw e refl
+
+pub job-tp : (g : Gathered) (r : Result Asked WordFault) → asked_of g ≡ r → job_from Tp g ≡ (r >>= (λ asked. Ok (PlainTp asked)))
+unfolding job_from
+job-tp g r e = rw e refl
+
+pub job-cert : (g : Gathered) (r : Result Asked WordFault) → asked_of g ≡ r → job_from Cert g ≡ (r >>= (λ asked. Ok (PlainCert asked)))
+unfolding job_from
+job-cert g r e = rw e refl
+
+pub job-check : (g : Gathered) → job_from Check g ≡ Ok PlainCheck
+unfolding job_from
+job-check g = refl
+
+pub job-edge : (by : By) (side : Side) (g : Gathered) (r : Result EdgeAsked WordFault) → edge_of by side g ≡ r
+    → job_from (Edge by side) g ≡ (r >>= (λ asked. Ok (PlainEdge asked)))
+unfolding job_from
+job-edge by side g r e = rw e refl
 
 -- ---- answers
 pub answers-fault : {A B F : Type 0} (view : A → B) (wanted : Result B F) (r : Result A F) (fault : F) → r ≡ Err fault → wanted ≡ Err fault

@@ -6,7 +6,9 @@ use Rattle.case_types.specs.declared.cases.Edition.TheVariants.{Y1976, Y1978}
 use Rattle.dec_text.specs.Decimals.{decimal_of}
 use Rattle.dec_text.specs.declared.faults.DecFault.{DecFault}
 use Rattle.case_words.specs.Answers.{◌>>=◌, when, each_of}
+use Rattle.case_words.specs.Quantities.{places_of, least, greatest}
 use Rattle.case_words.specs.Names.{name_of, are_different}
+use Rattle.case_words.specs.declared.boundaries.By.{By}
 use Rattle.case_words.specs.declared.faults.WordFault.{WordFault}
 use Rattle.case_words.specs.declared.faults.WordFault.TheVariants.{Value, Range, Count, Twice}
 
@@ -23,6 +25,14 @@ unfoldable pub number_of : ℕ → ℕ → ℕ → ℕ → List ℕ → Result �
 number_of place places low high text = do
   n ← valued place (decimal_of places (10 ^ 15) text)
   when (is_within low high n) n (Range place)
+
+-- a temperature or a pressure, with its places and its range
+unfoldable pub quantity_of : ℕ → By → List ℕ → Result ℕ WordFault
+quantity_of place by text = number_of place (places_of by) (least by) (greatest by) text
+
+-- a difference of temperatures or of pressures, in 1 to 2^32 - 1 units of the last place
+unfoldable pub width_of : ℕ → By → List ℕ → Result ℕ WordFault
+width_of place by text = number_of place (places_of by) 1 4294967295 text
 
 -- the edition of a year: 76 or 78
 abbrev pub edition_by : ℕ → ℕ → Result Edition WordFault

@@ -1,9 +1,11 @@
 pub mod Answers
-pub mod Keys
+pub mod Quantities
 pub mod Commands
+pub mod Keys
 pub mod Names
 pub mod Items
 pub mod Counts
 pub mod Jobs
+pub mod Missing
 pub mod Views
 pub mod Keeping

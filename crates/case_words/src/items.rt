@@ -5,8 +5,9 @@ ghost use Rattle.std.specs.List.{position_or_len, list_any};
 ghost use Rattle.std.specs.Str.{bytes_eq};
 ghost use Rattle.case_words.specs.Answers.{Answers};
 ghost use Rattle.case_words.specs.Names.{text_of, are_different};
-ghost use Rattle.case_words.specs.Items.{number_of, is_within, items_of, edition_of, parts_of, names_of};
+ghost use Rattle.case_words.specs.Items.{number_of, is_within, items_of, quantity_of, width_of, edition_of, parts_of, names_of};
 
+use crate::boundaries::By;
 use crate::faults::WordFault;
 use crate::names::{name_text, read_name};
 use arrayvec::ArrayVec;
@@ -44,6 +45,20 @@ fn is_in(low: u32, high: u32, n: u64) -> bool
     ensures high { IsTrue result → n ≤ high }
 {
     u64::from(low) <= n && n <= u64::from(high)
+}
+
+/// A temperature in mK or a pressure in Pa, in the word at a place.
+pub fn read_quantity(place: usize, by: By, text: &[u8]) -> Result<u32, WordFault>
+    ensures { Answers (λ n. n) (quantity_of place by text.now) result }
+{
+    read_number(place, by.places(), by.least(), by.greatest(), text)
+}
+
+/// A difference of temperatures in mK or of pressures in Pa, at least 1, in the word at a place.
+pub fn read_width(place: usize, by: By, text: &[u8]) -> Result<u32, WordFault>
+    ensures { Answers (λ n. n) (width_of place by text.now) result }
+{
+    read_number(place, by.places(), 1, u32::MAX, text)
 }
 
 /// The edition that a number without places in the word at a place names: 76 or 78.

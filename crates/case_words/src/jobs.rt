@@ -4,6 +4,7 @@ ghost use Rattle.std.specs.Prelude.{◌≡◌, ◌≤◌, IsTrue, length, map};
 ghost use Rattle.std.specs.List.{list_all, sum};
 ghost use Rattle.case_words.specs.Names.{text_of, is_name_length, are_different};
 
+use crate::boundaries::EdgeWords;
 use arrayvec::ArrayVec;
 use case_types::{Edition, Name, SLOTS};
 
@@ -16,6 +17,8 @@ pub enum Job {
     Cert(FlashWords),
     /// The verdict on a certificate.
     Check,
+    /// The report of a search for a phase boundary.
+    Edge(EdgeWords),
 }
 
 /// What a flash is asked of.

@@ -2,6 +2,8 @@
 
 ghost use Rattle.std.specs.Prelude.{◌≡◌};
 
+use crate::commands::Command;
+
 /// A key that must stand, in the order in which a missing one is named.
 #[derive(Clone, Copy, Debug, PartialEq, Eq)]
 pub enum Key {
@@ -9,6 +11,12 @@ pub enum Key {
     T,
     /// The pressure in Pa.
     P,
+    /// The lower end of a search, in Pa or K.
+    Lo,
+    /// The upper end of a search, in Pa or K.
+    Hi,
+    /// The most that the ends of what a search answers may differ, in Pa or K.
+    Width,
     /// The parts of the feed.
     Z,
     /// The names of the components.
@@ -19,7 +27,7 @@ pub enum Key {
     Budget,
 }
 
-/// A key of a flash.
+/// A key of a command.
 #[derive(Clone, Copy, Debug, PartialEq, Eq)]
 pub enum FlashKey {
     /// One that must stand.
@@ -31,15 +39,15 @@ pub enum FlashKey {
 impl FlashKey {
     ghost use Rattle.case_words.specs.Keys.{key_of};
 
-    /// The key that is spelled so.
+    /// The key of a command that is spelled so.
     #[tactic(auto, unfolding(crate::specs::Keys::key_of))]
-    pub fn from_bytes(bytes: &[u8]) -> Option<FlashKey>
-        ensures { result ≡ key_of bytes.now }
+    pub fn from_bytes(command: Command, bytes: &[u8]) -> Option<FlashKey>
+        ensures { result ≡ key_of command bytes.now }
     {
-        if bytes == b"kappa".as_slice() {
+        if command.takes_edition() && bytes == b"kappa".as_slice() {
             return Some(FlashKey::Kappa);
         }
-        match Key::from_bytes(bytes) {
+        match Key::among(command.keys(), bytes) {
             Some(key) => Some(FlashKey::Needed(key)),
             None => None,
         }
@@ -47,28 +55,15 @@ impl FlashKey {
 }
 
 impl Key {
-    ghost use Rattle.case_words.specs.Keys.{needed_of, key_text};
+    ghost use Rattle.case_words.specs.Keys.{key_among, key_text};
 
-    /// The key that must stand and is spelled so.
-    #[tactic(auto, unfolding(crate::specs::Keys::needed_of))]
-    fn from_bytes(bytes: &[u8]) -> Option<Key>
-        ensures { result ≡ needed_of bytes.now }
+    /// The key among these that is spelled so.
+    fn among(keys: &[Key], bytes: &[u8]) -> Option<Key>
+        ensures { result ≡ key_among keys.now bytes.now }
     {
-        if bytes == b"T".as_slice() {
-            Some(Key::T)
-        } else if bytes == b"P".as_slice() {
-            Some(Key::P)
-        } else if bytes == b"z".as_slice() {
-            Some(Key::Z)
-        } else if bytes == b"names".as_slice() {
-            Some(Key::Names)
-        } else if bytes == b"tol".as_slice() {
-            Some(Key::Tol)
-        } else if bytes == b"budget".as_slice() {
-            Some(Key::Budget)
-        } else {
-            None
-        }
+        keys.iter()
+            .copied()
+            .find(|key| key.text().as_bytes() == bytes)
     }
 
     /// The key as it is spelled.
@@ -78,6 +73,9 @@ impl Key {
         match self {
             Key::T => "T",
             Key::P => "P",
+            Key::Lo => "lo",
+            Key::Hi => "hi",
+            Key::Width => "width",
             Key::Z => "z",
             Key::Names => "names",
             Key::Tol => "tol",

@@ -7,7 +7,7 @@ use std::alloc::{AllocError, Global};
 use std::test::Fail;
 
 /// The words of a line, parted by spaces; an empty line has none.
-fn words_of(alloc: Global, line: &str) -> Result<Vec<Word>, AllocError> {
+pub fn words_of(alloc: Global, line: &str) -> Result<Vec<Word>, AllocError> {
     let mut words = Vec::new(alloc);
     for text in line.split_whitespace() {
         words.push(Word::new(text.as_bytes().to_vec(alloc)?))?;

@@ -1,6 +1,8 @@
 -- Pieces of text, one behind the other.
 use Rattle.std.specs.Prelude.{ℕ, zero, suc, ◌*◌, ◌/◌, ◌^◌, List, [], ◌++◌, pos, codes}
 use Rattle.std.specs.Fmt.{signed_decimal}
+use Rattle.case_types.specs.declared.answers.Outcome.{Outcome}
+use Rattle.case_types.specs.declared.answers.Outcome.TheVariants.{Closed, Spent, Grain}
 use Rattle.dec_text.specs.Printed.{fixed_text}
 use Rattle.log_laws.specs.Between.{Ends}
 
@@ -20,3 +22,9 @@ ends_line label v = label ++ signed_decimal v.lo ++ line (codes " ") (signed_dec
 -- a part in millionths of a whole, down, with six places; of no whole it is 0
 abbrev pub millionths_text : ℕ → ℕ → List ℕ
 millionths_text part whole = fixed_text (pos (part * 10 ^ 6 / whole)) 6
+
+-- how a flash ended
+abbrev pub outcome_text : Outcome → List ℕ
+outcome_text Closed = codes "closed"
+outcome_text Spent = codes "open spent"
+outcome_text (Grain cell) = codes "open grain"

@@ -7,8 +7,6 @@ use Rattle.case_types.specs.declared.cases.Row.{Row}
 use Rattle.case_types.specs.declared.phases.Phase.{Phase}
 use Rattle.case_types.specs.declared.planes.Plane.{Plane}
 use Rattle.case_types.specs.declared.answers.Answer.{Answer}
-use Rattle.case_types.specs.declared.answers.Outcome.{Outcome}
-use Rattle.case_types.specs.declared.answers.Outcome.TheVariants.{Closed, Spent, Grain}
 use Rattle.case_types.specs.Energy.Instances.{Enclosures, pair_place}
 use Rattle.case_types.specs.Arithmetic.Tables.{ends_at}
 use Rattle.dec_text.specs.Printed.{fixed_text}
@@ -20,20 +18,15 @@ use Rattle.component_table.specs.declared.cases.Picked.{Picked}
 use Rattle.cert_format.specs.Writing.{certificate_text}
 use Rattle.report_text.specs.declared.ends.End.{End}
 use Rattle.report_text.specs.declared.ends.End.TheVariants as end
-use Rattle.report_text.specs.Pieces.{texts_below, line, ends_line, millionths_text}
+use Rattle.report_text.specs.Pieces.{texts_below, line, ends_line, millionths_text, outcome_text}
 use Rattle.report_text.specs.Joules.{millijoules}
 use Rattle.report_text.specs.RefusalText.{word_fault_text, table_fault_text, case_fault_text, unread_text, too_long_text}
 use Rattle.report_text.specs.VerdictText.{verdict_text}
+use Rattle.report_text.specs.EdgeText.{edge_text}
 
 -- the name of a component
 abbrev pub name_text : Case → ℕ → List ℕ
 name_text c i = slice_index_or (map (λ (r : Row). text_of r.name) c.rows) i []
-
--- the first words, by the outcome
-abbrev pub outcome_text : Outcome → List ℕ
-outcome_text Closed = codes "closed units="
-outcome_text Spent = codes "open spent units="
-outcome_text (Grain cell) = codes "open grain units="
 
 -- temperature in K with three places, pressure in Pa, tolerance
 abbrev pub conditions_text : Case → ℕ → List ℕ
@@ -110,7 +103,7 @@ enclosures_text c x =
 -- the whole report of a flash
 unfoldable pub flash_text : Params → Picked → ℕ → Answer → List ℕ
 flash_text p picked tol a =
-    line (outcome_text a.outcome) (decimal a.units)
+    outcome_text a.outcome ++ line (codes " units=") (decimal a.units)
     ++ conditions_text p.case tol
     ++ line (codes "energy=") (signed_decimal a.u)
     ++ line (codes "gap=") (signed_decimal a.gap)
@@ -130,4 +123,5 @@ report_text (end.Case fault) = line (codes "refused case ") (case_fault_text fau
 report_text (end.Flash params picked tol answer) = flash_text params picked tol answer
 report_text (end.Cert params answer) = certificate_text params answer
 report_text (end.Checked verdict) = verdict_text verdict
+report_text (end.Edge by answer) = edge_text by answer
 report_text end.Memory = []

@@ -1,10 +1,10 @@
 //! What a run came to.
 
 ghost use Rattle.std.specs.Prelude.{◌≡◌};
-ghost use Rattle.report_text.specs.Statuses.{status_of_outcome, status_of_verdict};
+ghost use Rattle.report_text.specs.Statuses.{status_of_outcome, status_of_verdict, status_of_edge};
 
-use case_types::{Answer, Outcome};
-use case_words::WordFault;
+use case_types::{Answer, EdgeAnswer, Outcome};
+use case_words::{By, WordFault};
 use cert_format::{CertFault, Verdict};
 use component_table::{CaseFault, Picked, TableFault};
 use pr_params::Params;
@@ -28,6 +28,8 @@ pub enum End {
     Cert(Params, Answer),
     /// The verdict on a certificate.
     Checked(Verdict),
+    /// The quantity that a search for a phase boundary went over, and its answer.
+    Edge(By, EdgeAnswer),
     /// Memory was wanting: nothing is printed.
     Memory,
 }
@@ -49,6 +51,7 @@ impl End {
             End::Flash(_, _, _, answer) => outcome_status(&answer.outcome),
             End::Cert(_, answer) => outcome_status(&answer.outcome),
             End::Checked(verdict) => verdict_status(*verdict),
+            End::Edge(_, answer) => edge_status(answer),
         }
     }
 }
@@ -74,5 +77,21 @@ fn verdict_status(verdict: Verdict) -> u8
         Verdict::Memory => 8,
         Verdict::Refused(CertFault::TooLong) => 11,
         _ => 9,
+    }
+}
+
+/// The status of a search for a phase boundary.
+fn edge_status(answer: &EdgeAnswer) -> u8
+    ensures { result ≡ status_of_edge answer.now }
+{
+    match answer {
+        EdgeAnswer::Bracket { lo: _, hi: _ } => 0,
+        EdgeAnswer::NoEdge { lo: _, hi: _ } => 10,
+        EdgeAnswer::Stopped {
+            at: _,
+            outcome: _,
+            units: _,
+        } => 5,
+        EdgeAnswer::Refused { at: _, fault: _ } => 4,
     }
 }

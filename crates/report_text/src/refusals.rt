@@ -64,7 +64,7 @@ pub fn put_case_fault(out: &mut Vec<u8>, fault: CaseFault) -> Result<(), AllocEr
 }
 
 /// Appends the range that is broken.
-fn put_range_fault(out: &mut Vec<u8>, fault: ParamFault) -> Result<(), AllocError>
+pub fn put_range_fault(out: &mut Vec<u8>, fault: ParamFault) -> Result<(), AllocError>
     ensures { OnOk result (Adds out.old.items out.new.items (range_fault_text fault)) }
 {
     match fault {

@@ -7,11 +7,12 @@ ghost use Rattle.dec_text.specs.Appending.{Adds};
 ghost use Rattle.report_text.specs.Pieces.{texts_below};
 ghost use Rattle.report_text.specs.ReportText.{report_text, flash_text, conditions_text, split_text, phases_text, phase_text, part_text, part_of, parts_of, plane_text, potential_text};
 
+use crate::edge_texts::put_edge;
 use crate::enclosures::put_enclosures;
 use crate::ends::End;
 use crate::joules::millijoules;
 use crate::refusals::{put_case_fault, put_table_fault, put_word_fault};
-use crate::texts::{head_of, label_of, put_fixed, put_fixed_line, put_line, put_millionths};
+use crate::texts::{label_of, outcome_of, put_fixed, put_fixed_line, put_line, put_millionths};
 use crate::verdict_texts::put_verdict;
 use case_types::{Answer, Case, Phase, Plane, SLOTS, Split};
 use case_words::put_name;
@@ -54,6 +55,7 @@ pub fn report(alloc: Global, end: &End) -> Result<Vec<u8>, AllocError>
         }
         End::Cert(params, answer) => put_certificate(&mut out, params, answer)?,
         End::Checked(verdict) => put_verdict(&mut out, *verdict)?,
+        End::Edge(by, answer) => put_edge(&mut out, *by, answer)?,
         End::Memory => {}
     }
     Ok(out)
@@ -69,7 +71,8 @@ fn put_flash(
 ) -> Result<(), AllocError>
     ensures { OnOk result (Adds out.old.items out.new.items (flash_text params.now picked.now tol answer.now)) }
 {
-    put_line(out, head_of(&answer.outcome), answer.units)?;
+    put_text(out, outcome_of(&answer.outcome))?;
+    put_line(out, " units=", answer.units)?;
     put_conditions(out, &params.case, tol)?;
     put_line(out, "energy=", answer.u)?;
     put_line(out, "gap=", answer.gap)?;

@@ -3,8 +3,8 @@
 ghost use Rattle.std.specs.Prelude.{◌≡◌, ◌*◌, ◌/◌, ◌^◌, ◌<◌, ◌≤◌, OnOk};
 ghost use Rattle.dec_text.specs.Printed.{fixed_text};
 ghost use Rattle.dec_text.specs.Appending.{Adds};
-ghost use Rattle.report_text.specs.Pieces.{line, ends_line, millionths_text};
-ghost use Rattle.report_text.specs.ReportText.{state_text, outcome_text};
+ghost use Rattle.report_text.specs.Pieces.{line, ends_line, millionths_text, outcome_text};
+ghost use Rattle.report_text.specs.ReportText.{state_text};
 ghost use Rattle.log_laws.specs.Interval.{ends_of};
 
 use case_types::Outcome;
@@ -85,14 +85,14 @@ fn millionths(part: u128, whole: u128) -> u128
     }
 }
 
-/// The first words of a flash.
-pub fn head_of(outcome: &Outcome) -> &'static str
+/// How a flash ended.
+pub fn outcome_of(outcome: &Outcome) -> &'static str
     ensures { result.now ≡ outcome_text outcome.now }
 {
     match outcome {
-        Outcome::Closed => "closed units=",
-        Outcome::Spent => "open spent units=",
-        Outcome::Grain(_) => "open grain units=",
+        Outcome::Closed => "closed",
+        Outcome::Spent => "open spent",
+        Outcome::Grain(_) => "open grain",
     }
 }
 

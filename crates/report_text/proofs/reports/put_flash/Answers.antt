@@ -22,8 +22,8 @@ returns c =
     let low : SFits w128 c.args.answer.now.low = search rules in
     let joules : SFits w128 c.millijoules-gap.result = search rules in
     let is = by_lower_end c.args.params.now c.args.answer.now.gap c.millijoules-gap.result (simp to_z-of_z at c.millijoules-gap.ensures) in
-    adds-then (adds-then (adds-then (adds-then (adds-then (adds-then (adds-then (adds-then
-    (rw c.head_of.ensures at c.in_ok-put_line.ensures) c.in_ok-put_conditions.ensures)
+    adds-then (adds-then (adds-then (adds-then (adds-then (adds-then (adds-then (adds-then (adds-then
+    (rw c.outcome_of.ensures at c.in_ok-put_text.ensures) c.in_ok-put_line.ensures) c.in_ok-put_conditions.ensures)
     (simp to_z-of_z at c.in_ok-put_line-2.ensures))
     (simp to_z-of_z at c.in_ok-put_line-3.ensures))
     (rw is at (simp to_z-of_z at c.in_ok-put_fixed_line.ensures)))
