@@ -9,7 +9,7 @@ use Rattle.cert_check.specs.Streams.{limit}
 use Rattle.io_edge.specs.Bytes.{ahead}
 use Rattle.io_edge.specs.Reading.{TakesAtMost}
 use Rattle.report_text.specs.declared.ends.End.{End}
-use Rattle.report_text.specs.declared.ends.End.TheVariants.{Words, Read, TooLong, Table, Case, Flash, Cert, Checked, Memory}
+use Rattle.report_text.specs.declared.ends.End.TheVariants.{Words, Read, TooLong, Table, Case, Flash, Cert, Checked, Edge, Memory}
 use Rattle.flash_run.specs.declared.wanted.Wanted.{Wanted}
 use Rattle.flash_run.specs.declared.wanted.Wanted.TheVariants.{Report, Certificate}
 use Rattle.flash_run.specs.Headline.{table_limit, IsAll}
@@ -57,4 +57,5 @@ takes_at_most job (Checked verdict) left left' faults faults' failed' w =
     let asks = w.cause.0.asks in
     let limited : input_limit job ≡ limit = rw asks refl in
     more (limit + 1) (input_limit job + 1) left left' (omega (arith, limited)) w.takes.taken
+takes_at_most job (Edge by answer) left left' faults faults' failed' w = absurd w.cause
 takes_at_most job Memory left left' faults faults' failed' w = w.takes

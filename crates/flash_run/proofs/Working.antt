@@ -11,7 +11,7 @@ use Rattle.cert_check.specs.Certificates.{IsGoodText}
 use Rattle.cert_check.specs.Streams.{AnswersStream, FailsToRead, IsStreamVerdict, Judges as JudgesText, past_limit}
 use Rattle.cert_check.proofs.Exports.{accepted_is_good, good_certifies}
 use Rattle.report_text.specs.declared.ends.End.{End}
-use Rattle.report_text.specs.declared.ends.End.TheVariants.{Words, Read, TooLong, Table, Case, Flash, Cert, Checked, Memory}
+use Rattle.report_text.specs.declared.ends.End.TheVariants.{Words, Read, TooLong, Table, Case, Flash, Cert, Checked, Edge, Memory}
 use Rattle.flash_run.specs.declared.wanted.Wanted.{Wanted}
 use Rattle.flash_run.specs.Headline.{IsAll, IsAccepted, Accepts, Returns, Certifies}
 use Rattle.flash_run.specs.Ends.{Judges, Works, end_of, job_for}
@@ -80,6 +80,7 @@ judged_works wanted asked bytes left left' faults faults' failed' (Words fault) 
 judged_works wanted asked bytes left left' faults faults' failed' Read all same c r j = absurd j
 judged_works wanted asked bytes left left' faults faults' failed' TooLong all same c r j = absurd j
 judged_works wanted asked bytes left left' faults faults' failed' (Checked v) all same c r j = absurd j
+judged_works wanted asked bytes left left' faults faults' failed' (Edge by answer) all same c r j = absurd j
 
 -- ---- of a certificate
 never_past : (within : Verdict) (u gap : ℤ) → verdict.Accepted u gap ≡ past_limit within → ⊥

@@ -5,7 +5,7 @@ use Rattle.case_types.specs.declared.cases.ParamFault.{ParamFault}
 use Rattle.case_types.specs.Arithmetic.Faults.{fault_of}
 use Rattle.case_types.specs.Arithmetic.Numbers.{numbers_of}
 use Rattle.case_types.specs.declared.answers.Answer.{Answer}
-use Rattle.case_words.specs.Jobs.{Asked, PlainJob, PlainTp, PlainCert, PlainCheck}
+use Rattle.case_words.specs.Jobs.{Asked, PlainJob, PlainTp, PlainCert, PlainEdge, PlainCheck}
 use Rattle.case_words.specs.declared.faults.WordFault.{WordFault}
 use Rattle.component_table.specs.declared.cases.CaseFault.{CaseFault}
 use Rattle.component_table.specs.declared.cases.CaseFault.TheVariants.{Param}
@@ -24,7 +24,7 @@ use Rattle.io_edge.specs.Bytes.{IsSpent}
 use Rattle.io_edge.specs.Causes.{CountsFault}
 use Rattle.io_edge.specs.Reading.{TakesAtMost, TakesExactly}
 use Rattle.report_text.specs.declared.ends.End.{End}
-use Rattle.report_text.specs.declared.ends.End.TheVariants.{Words, Read, TooLong, Table, Case, Flash, Cert, Checked, Memory}
+use Rattle.report_text.specs.declared.ends.End.TheVariants.{Words, Read, TooLong, Table, Case, Flash, Cert, Checked, Edge, Memory}
 use Rattle.flash_run.specs.declared.wanted.Wanted.{Wanted}
 use Rattle.flash_run.specs.declared.wanted.Wanted.TheVariants.{Report, Certificate}
 use Rattle.flash_run.specs.Headline.{table_limit, IsAll, IsCase, Answers, Accepts, Returns}
@@ -40,6 +40,7 @@ CountsRead (Case fault) faults faults' = faults' ≡ faults
 CountsRead (Flash params picked tol answer) faults faults' = faults' ≡ faults
 CountsRead (Cert params answer) faults faults' = faults' ≡ faults
 CountsRead (Checked verdict) faults faults' = faults' ≡ faults
+CountsRead (Edge by answer) faults faults' = faults' ≡ faults
 CountsRead Memory faults faults' = (faults' ≡ faults) ⊎ CountsFault faults faults'
 
 -- the source was read to its end
@@ -52,6 +53,7 @@ input_limit (Err fault) = 0
 input_limit (Ok (PlainTp asked)) = table_limit
 input_limit (Ok (PlainCert asked)) = table_limit
 input_limit (Ok PlainCheck) = limit
+input_limit (Ok (PlainEdge asked)) = table_limit
 
 -- a certificate that is accepted was read to its end, and of another at most one byte past the limit was taken
 pub record TakesCertificate (verdict : Verdict) (left left' : Option (List ℕ)) : Type 0 where
@@ -69,6 +71,7 @@ Takes job (Case fault) left left' = TakesWhole left left'
 Takes job (Flash params picked tol answer) left left' = TakesWhole left left'
 Takes job (Cert params answer) left left' = TakesWhole left left'
 Takes job (Checked verdict) left left' = TakesCertificate verdict left left'
+Takes job (Edge by answer) left left' = TakesWhole left left'
 Takes job Memory left left' = TakesAtMost (input_limit job + 1) left left'
 
 -- ---- the cause
@@ -105,6 +108,7 @@ Judges wanted asked bytes (Case fault) = IsRefusedName asked bytes fault ⊎ IsR
 Judges wanted asked bytes (Flash params picked tol answer) = (wanted ≡ Report) × IsLawfulFor asked params answer
 Judges wanted asked bytes (Cert params answer) = (wanted ≡ Certificate) × IsLawfulFor asked params answer
 Judges wanted asked bytes (Checked verdict) = ⊥
+Judges wanted asked bytes (Edge by answer) = ⊥
 Judges wanted asked bytes Memory = ⊤
 
 -- the job is a flash
@@ -144,6 +148,7 @@ Comes job left left' (Case fault) = IsJudged job left left' (Case fault)
 Comes job left left' (Flash params picked tol answer) = IsJudged job left left' (Flash params picked tol answer)
 Comes job left left' (Cert params answer) = IsJudged job left left' (Cert params answer)
 Comes job left left' (Checked verdict) = IsChecked job left verdict × (end_of verdict ≡ Checked verdict)
+Comes job left left' (Edge by answer) = ⊥
 Comes job left left' Memory = ⊤
 
 -- ---- the work

@@ -80,6 +80,8 @@ fn work<S: Source>(alloc: Global, words: &Vec<Word>, source: &mut S) -> End
         Ok(Job::Tp(job)) => flash_job(alloc, Wanted::Report, &job, source),
         Ok(Job::Cert(job)) => flash_job(alloc, Wanted::Certificate, &job, source),
         Ok(Job::Check) => check_job(source),
+        // No command asks for a search yet.
+        Ok(Job::Edge(_)) => unreachable!(),
         Err(fault) => End::Words(fault),
     }
 }
