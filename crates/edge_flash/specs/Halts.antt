@@ -8,12 +8,12 @@ use Rattle.edge_flash.specs.declared.classed.Classed.{Classed}
 use Rattle.edge_flash.specs.declared.classed.Classed.TheVariants.{Open, Param}
 use Rattle.edge_flash.specs.declared.halts.Halt.{Halt}
 use Rattle.edge_flash.specs.declared.halts.Halt.TheVariants.{Memory, Answer}
-use Rattle.edge_flash.specs.Places.{Bisected}
+use Rattle.edge_flash.specs.Places.{Bisected, EnclosesIfBracket}
 
--- the answer is one of the search
+-- the answer is one of the search, and no bracket unless it encloses a boundary
 abbrev pub Halted : (ℕ → Classed → Type 0) → Search EdgeEnd → Halt → Type 0
 Halted says s (Memory fault) = Unit {0}
-Halted says s (Answer answer) = Bisected says s answer
+Halted says s (Answer answer) = Bisected says s answer × EnclosesIfBracket s answer
 
 -- what is said of the place is open, or a refusal
 abbrev pub TellsOf : (ℕ → Classed → Type 0) → ℕ → EdgeAnswer → Type 0
