@@ -56,40 +56,29 @@ kind_of u f = if int_le (pos (2 ^ 20)) (f.low -ℤ u) then Divided else phase_ki
 abbrev pub gap_of : ℤ → ℤ → Fibre → ℤ
 gap_of u gap f = if int_le (pos (2 ^ 20)) (f.low -ℤ u) then gap else f.up -ℤ (u -ℤ gap)
 
+-- the end has the numbers of a flash and of a walk
+pub record HasNumbers (a : Answer) (f : Fibre) (end : EdgeEnd) : Type 0 where
+  pub u : end.u ≡ a.u
+  pub packing : end.packing ≡ f.packing
+  pub up : end.up ≡ f.up
+  pub low : end.low ≡ f.low
+  pub kind : end.kind ≡ kind_of a.u f
+  pub gap : end.gap ≡ gap_of a.u a.gap f
+
+-- ---- a flash, and a walk over the states of one phase
 -- an answer of a flash, certified and lawful, for a case whose parameters are accepted
 pub record IsFlashed (s : Surface) (c : Case) (tol budget : ℕ) (a : Answer) : Type 0 where
   pub accepted : fault_of c ≡ None
   pub certified : Certified c (enclosures_of c) (division_of a.split) a.u a.gap
   pub lawful : IsLawful s c tol budget a
 
--- one that closes, beside a walk over the states of one phase
-pub record IsBeside (s : Surface) (is_walk : IsWalk) (c : Case) (tol budget : ℕ) (a : Answer) (units : ℕ) (f : Fibre) : Type 0 where
-  pub flashed : IsFlashed s c tol budget a
-  pub closed : a.outcome ≡ Outcomes.Closed
-  pub walked : is_walk c tol budget units f
-
--- the flash closes and the walk is clear, and the end has their numbers
-pub record IsEnd (s : Surface) (is_walk : IsWalk) (c : Case) (tol budget : ℕ) (end : EdgeEnd) : Type 0 where
-  pub answer : Answer
-  pub units : ℕ
-  pub fibre : Fibre
-  pub beside : IsBeside s is_walk c tol budget answer units fibre
-  pub clear : fibre.end ≡ Clear
-  pub u : end.u ≡ answer.u
-  pub packing : end.packing ≡ fibre.packing
-  pub up : end.up ≡ fibre.up
-  pub low : end.low ≡ fibre.low
-  pub kind : end.kind ≡ kind_of answer.u fibre
-  pub gap : end.gap ≡ gap_of answer.u answer.gap fibre
-
--- ---- open places
--- the flash doesn't close
+-- the flash stays open
 pub record IsOpenFlash (s : Surface) (c : Case) (tol budget : ℕ) (outcome : Outcome) (units : ℕ) : Type 0 where
   pub answer : Answer
   pub flashed : IsFlashed s c tol budget answer
-  pub same : answer.outcome ≡ outcome
+  pub outcome : answer.outcome ≡ outcome
   pub not_closed : outcome ≢ Outcomes.Closed
-  pub spent : answer.units ≡ units
+  pub units : answer.units ≡ units
 
 -- the packing fractions of a cell of one unit, with no fractions of components
 abbrev pub grain_region : ℕ → Region
@@ -101,17 +90,26 @@ Carries Clear outcome = ⊥
 Carries Spent outcome = outcome ≡ Outcomes.Spent
 Carries (Grain packing) outcome = (cell : Cell) × (outcome ≡ Outcomes.Grain cell) × (region_of cell ≡ grain_region packing)
 
--- the flash closes, and the walk isn't clear
-pub record IsOpenFibre (s : Surface) (is_walk : IsWalk) (c : Case) (tol budget : ℕ) (outcome : Outcome) (units : ℕ) : Type 0 where
+-- what a flash that closes says beside a walk: an end where the walk is clear, and else the outcome and the units of the walk
+abbrev pub TellsBeside : Answer → Fibre → ℕ → Classed → Type 0
+TellsBeside a f units (End end) = (f.end ≡ Clear) × HasNumbers a f end
+TellsBeside a f units (Open outcome spent) = Carries f.end outcome × (spent ≡ units)
+TellsBeside a f units (Param fault) = ⊥
+
+-- a flash closes beside a walk, and they say this
+pub record IsBeside (s : Surface) (is_walk : IsWalk) (c : Case) (tol budget : ℕ) (classed : Classed) : Type 0 where
   pub answer : Answer
+  pub flashed : IsFlashed s c tol budget answer
+  pub closed : answer.outcome ≡ Outcomes.Closed
   pub fibre : Fibre
-  pub beside : IsBeside s is_walk c tol budget answer units fibre
-  pub carries : Carries fibre.end outcome
+  pub units : ℕ
+  pub walked : is_walk c tol budget units fibre
+  pub tells : TellsBeside answer fibre units classed
 
 -- ---- what is said
 abbrev pub SaysOf : Surface → IsWalk → Case → ℕ → ℕ → Classed → Type 0
-SaysOf s is_walk c tol budget (End end) = IsEnd s is_walk c tol budget end
-SaysOf s is_walk c tol budget (Open outcome units) = IsOpenFlash s c tol budget outcome units ⊎ IsOpenFibre s is_walk c tol budget outcome units
+SaysOf s is_walk c tol budget (End end) = IsBeside s is_walk c tol budget (End end)
+SaysOf s is_walk c tol budget (Open outcome units) = IsOpenFlash s c tol budget outcome units ⊎ IsBeside s is_walk c tol budget (Open outcome units)
 SaysOf s is_walk c tol budget (Param fault) = fault_of c ≡ Some fault
 
 -- of a place of a job: what is said of the case there

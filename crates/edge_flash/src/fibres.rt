@@ -10,6 +10,9 @@ use fibre_bound::Fibre;
 pub struct Walked {
     pub fibre: Fibre,
     pub units: u32,
+    pub ghost inside: { fibre.packing < 2 ^ 40 },
+    pub ghost up_small: { unsigned_abs fibre.up < 2 ^ 49 },
+    pub ghost low_small: { unsigned_abs fibre.low ≤ 2 ^ 107 },
 }
 
 /// A walk over the states of the feed in one phase, for any case of one to four components.
@@ -32,10 +35,7 @@ pub trait OnePhase {
         requires tol_high { tol ≤ 1048576 }
         requires budget_high { budget ≤ 10000000 }
         ensures walk { IfOk result (λ w. is_walk case.now tol budget w.units w.fibre) }
-        ensures inside { IfOk result (λ w. w.fibre.packing < 2 ^ 40) }
         ensures grain { IfOk result (λ w. GrainIsInside w.fibre.end) }
-        ensures up_small { IfOk result (λ w. unsigned_abs w.fibre.up < 2 ^ 49) }
-        ensures low_small { IfOk result (λ w. unsigned_abs w.fibre.low ≤ 2 ^ 107) }
         ensures refused { (f : ParamFault) → (result ≡ Err f) ↔ (fault_of case.now ≡ Some f) };
 
     /// The bounds of a walk hold.
