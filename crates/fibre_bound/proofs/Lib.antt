@@ -1,1 +1,4 @@
-pub mod Exports
+pub mod Deep
+pub mod Going
+pub mod Small
+pub mod Sound
