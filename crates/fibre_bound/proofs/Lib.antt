@@ -1,3 +1,4 @@
+pub mod Bounding
 pub mod Deep
 pub mod Going
 pub mod Small

@@ -46,7 +46,7 @@ sound q units first _ (Clears t c rest reaches e clear) =
       up = so.up;
       near = near_more (t.up -ℤ q.slack) (low_of q c) t.least so.near clear;
     }
-sound q units first _ (Lowers t c rest reaches e open lower room) =
+sound q units first _ (Lowers t c rest reaches e opened lower room) =
     let so = sound q units first t reaches in
     let deep = subst IsDeep e so.deep in
     let below = middle_below c (deep_ordered c rest deep) in
@@ -59,7 +59,7 @@ sound q units first _ (Lowers t c rest reaches e open lower room) =
       up = refl;
       near = λ z h. let near = so.near z h in omega (arith, ints, bound, near);
     }
-sound q units first _ (Halves t c rest reaches e open none wide room) =
+sound q units first _ (Halves t c rest reaches e opened none wide room) =
     let so = sound q units first t reaches in
     record { deep = deep_halves c rest wide (subst IsDeep e so.deep); some = so.some; inside = so.inside; up = so.up; near = so.near }
 
@@ -100,9 +100,9 @@ near_end q (Some y) up low some near e = rw e (both (near y refl))
     both h = omega (arith, ints, clamps, h, some)
 
 far_end : (q : Question) (t : Trail) (c : Span) (rest : List Span) (low : ℤ) → t.cells ≡ c ∷ rest → IsOpen q t c → least_over q t.least t.cells ≡ Some low → (t.up -ℤ low) ≤ℤ q.slack → ⊥
-far_end q t c rest low e open least near =
+far_end q t c rest low e opened least near =
     let first = over_first q t.least low c rest (subst (λ (l : List Span). least_over q t.least l ≡ Some low) e least) in
-    absurd (omega (arith, ints, first, open, near))
+    absurd (omega (arith, ints, first, opened, near))
 
 pub clear_exactly : (q : Question) (units : ℕ) (t : Trail) (end : FibreEnd) (low : ℤ) → pos 0 ≤ℤ q.slack → IsSound q t → EndsSo q units t end → LowIs q t end low →
     (end ≡ Clear) ↔ ((t.up -ℤ low) ≤ℤ q.slack)
