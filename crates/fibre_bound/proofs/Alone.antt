@@ -1,5 +1,6 @@
 -- A division of the feed of one phase alone: its phase is the feed, and has its energy.
-use Rattle.std.proofs.Common.{◌≡◌, ℕ, ◌+◌, ◌*◌, ◌^◌, ◌<◌, ◌≤◌, [], ◌∷◌, slice_index, *ℤ_comm, ℤ, pos, ◌+ℤ◌, ◌*ℤ◌, ◌≤ℤ◌, lit<, refl, ap, sym, subst, ◌∙◌, arith}
+use Rattle.std.proofs.Common.{◌≡◌, ℕ, ◌+◌, ◌*◌, ◌^◌, ◌<◌, ◌≤◌, [], ◌∷◌, slice_index, ℤ, pos, ◌+ℤ◌, ◌*ℤ◌, ◌≤ℤ◌, lit<, refl, ap, sym, subst, ◌∙◌, arith}
+use Rattle.std.proofs.Math.IntN.{*ℤ_comm}
 use Rattle.std.proofs.lemmas.Int.{ints}
 use Rattle.std.proofs.Math.Nat.{eq_of_mul-eq-mul_left, le_of_mul-le-mul_left, mul-le-mul_right}
 use Rattle.log_laws.specs.Fraction.{IsAtMost, product_of, whole}
@@ -37,7 +38,8 @@ alone_at_least n energy sum f z all some h =
     (at_least_adds_at (scaled share (energy f)) (constant (whole (pos 0))) z (pos 0) (2 ^ 40) (lit< tt) own none)
   where
     less : (m sum : ℕ) → m ≡ sum → IsAtMost (bits z) (product_of (ratio m sum) (bits z))
-    less m sum all = rw all (subst (λ (y : ℤ). (z *ℤ pos (sum * 2 ^ 40)) ≤ℤ y) (sym (all_of sum z)) (omega (arith, ints)))
+    less m sum all =
+        subst (λ (k : ℕ). IsAtMost (bits z) (product_of (ratio k sum) (bits z))) (sym all) (subst (λ (y : ℤ). (z *ℤ pos (sum * 2 ^ 40)) ≤ℤ y) (sym (all_of sum z)) (omega (arith, ints)))
 
 pub alone_at_most : (n : ℕ) (energy : State → LogSum) (sum : ℕ) (f : State) (z : ℤ) → moles n f ≡ sum → 0 < sum → AtMost (energy f) (bits z) →
     AtMost (energy_of_phases n energy sum (f ∷ [])) (bits z)
@@ -52,7 +54,8 @@ alone_at_most n energy sum f z all some h =
     (at_most_adds_at (scaled share (energy f)) (constant (whole (pos 0))) z (pos 0) (2 ^ 40) (lit< tt) own none)
   where
     less : (m sum : ℕ) → m ≡ sum → IsAtMost (product_of (ratio m sum) (bits z)) (bits z)
-    less m sum all = rw all (subst (λ (y : ℤ). y ≤ℤ (z *ℤ pos (sum * 2 ^ 40))) (sym (all_of sum z)) (omega (arith, ints)))
+    less m sum all =
+        subst (λ (k : ℕ). IsAtMost (product_of (ratio k sum) (bits z)) (bits z)) (sym all) (subst (λ (y : ℤ). y ≤ℤ (z *ℤ pos (sum * 2 ^ 40))) (sym (all_of sum z)) (omega (arith, ints)))
 
 -- ---- its composition
 once : (a : ℕ) → a + 0 ≡ a
@@ -67,10 +70,10 @@ alone_parts c d f h i l =
 pub alone_moles : (c : Case) (d : Division) (f : State) → IsAlone c d f → moles c.n f ≡ d.sum
 alone_moles c d f h =
     let same = sum_below-scaled_same c.n c.total d.sum f.parts (feed c) (alone_parts c d f h) in
-    eq_of_mul-eq-mul_left (turned (moles c.n f) (sum_below c.n (feed c)) d.sum same c.added) (total_positive c)
+    eq_of_mul-eq-mul_left c.total (total_positive c) (moles c.n f) d.sum (turned (moles c.n f) (sum_below c.n (feed c)) d.sum same c.added)
   where
     turned : (m z s : ℕ) → m * c.total ≡ z * s → z ≡ c.total → c.total * m ≡ c.total * s
-    turned m z s e k = rw k at e (omega (arith, e))
+    turned m z s e k = let g : m * c.total ≡ c.total * s = rw k at e in omega (arith, g)
 
 -- what the box of the feed holds, it holds of whatever is in proportion
 scaled_above : (lo z t p m : ℕ) → lo * t ≤ z * one → t * p ≡ z * m → 0 < t → lo * m ≤ p * one
@@ -91,10 +94,10 @@ pub in_box_of_feed : (c : Case) (f : State) (sum : ℕ) → moles c.n f ≡ sum 
 in_box_of_feed c f sum all parts = record {
   above = λ i l.
       rw all
-      (scaled_above _ (feed c i) c.total (f.parts i) sum (rw (feed_parts_sum c 1, feed_part_of c 1 i l) at (feed_in_box c).above i l) (parts i l) (total_positive c));
+      (scaled_above _ (feed c i) c.total (f.parts i) sum (rw (feed_parts_sum c 1, feed_part_of c 1 i l) at ((feed_in_box c).above i l)) (parts i l) (total_positive c));
   below = λ i l.
       rw all
-      (scaled_below _ (feed c i) c.total (f.parts i) sum (rw (feed_parts_sum c 1, feed_part_of c 1 i l) at (feed_in_box c).below i l) (parts i l) (total_positive c));
+      (scaled_below _ (feed c i) c.total (f.parts i) sum (rw (feed_parts_sum c 1, feed_part_of c 1 i l) at ((feed_in_box c).below i l)) (parts i l) (total_positive c));
 }
 
 pub feed_top : (c : Case) (i : ℕ) → i < c.n → slice_index (box_of_parts c.n c.z).hi i ≤ one
