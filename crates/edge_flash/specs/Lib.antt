@@ -3,3 +3,4 @@ pub mod Halts
 pub mod Phases
 pub mod Fibres
 pub mod Ends
+pub mod PengRobinson
