@@ -30,11 +30,7 @@ use pr_surface::PengRobinson;
 /// for every choice of the roots and of log2 e within the printed pairs. There is no edge where one of the given ends isn't divided and
 /// the other of the wanted kind. The search stops where the flash or the walk stays open, and is refused where the parameters break
 /// a range.
-pub fn edge<F: Flash>(
-    flash: &mut F,
-    case: &Case,
-    job: &EdgeWords,
-) -> Result<EdgeAnswer, Memory>
+pub fn edge<F: Flash>(flash: &mut F, case: &Case, job: &EdgeWords) -> Result<EdgeAnswer, Memory>
     ensures bisected { IfOk result (Bisected (SaysAt F.surface IsPrWalk case.now job.now) (boundary job.now.side job.now.lo job.now.hi job.now.width)) }
     ensures encloses { IfOk result (EnclosesIfBracket (boundary job.now.side job.now.lo job.now.hi job.now.width)) }
     ensures kinds { IfOk result (SayKinds case.now job.now) }
