@@ -4,3 +4,4 @@ pub mod Phases
 pub mod Fibres
 pub mod Ends
 pub mod PengRobinson
+pub mod Listed

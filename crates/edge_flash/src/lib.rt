@@ -9,8 +9,12 @@ mod ends;
 mod fibres;
 mod flash_places;
 mod halts;
+#[cfg(test)]
+mod listed;
 mod peng_robinson;
 mod places;
+#[cfg(test)]
+mod tests;
 
 pub use bisecting::bisect;
 pub use classed::Classed;
