@@ -1,11 +1,10 @@
 -- Heat capacities one after the other.
-use Rattle.std.proofs.Common.{◌≡◌, ℕ, zero, suc, ◌+◌, ◌<◌, ◌≤◌, List, [], ◌∷◌, length, get_or, drop, map, Bool, true, false, ℤ, Option, Some, None, refl, sym, ap, subst, ◌∙◌, arith}
-use Rattle.std.specs.Prelude.{Result, Ok, Err, ⊤, cond, nat_lt, ◌&&◌}
+use Rattle.std.proofs.Common.{◌≡◌, ℕ, zero, suc, ◌+◌, ◌<◌, ◌≤◌, List, [], ◌∷◌, length, get_or, drop, Bool, true, false, ℤ, Option, Some, None, refl, arith}
+use Rattle.std.specs.Prelude.{Ok, Err, cond, nat_lt}
 use Rattle.std.specs.List.{list_all}
 use Rattle.std.specs.Option.{is_some}
 use Rattle.std.proofs.lemmas.Bool.{and_parts, ltb-true}
 use Rattle.std.proofs.lemmas.List.{drop_more, drop_all}
-use Rattle.component_table.specs.declared.cases.CaseFault.{CaseFault}
 use Rattle.component_table.specs.declared.cases.CaseFault.TheVariants.{NoCp}
 use Rattle.component_table.specs.declared.rows.CpRow.{CpRow}
 use Rattle.component_table.specs.Tables.{is_of}

@@ -1,9 +1,6 @@
-use Rattle.std.proofs.Common.{◌≡◌, ◌∙◌, ◌++◌, ◌∷◌, [], List, ℕ, ℤ, Option, map, take, get_or, sym, ap, true, refl}
-use Rattle.std.specs.Prelude.{◌&&◌}
-use Rattle.std.specs.List.{list_all}
+use Rattle.std.proofs.Common.{◌∙◌, get_or, refl}
 use Rattle.std.proofs.lemmas.List.{take_more, map-append}
 use Rattle.std.proofs.lemmas.List.Folds.{list_all-append}
-use Rattle.component_table.specs.Capacities.{capacity_in, is_capacity}
 use Rattle.component_table.proofs.Heats.{capacity-in_range}
 use Rattle.component_table.proofs.capacities.capacities_of.Goals as goal
 

@@ -1,4 +1,4 @@
-use Rattle.std.proofs.Common.{◌≡◌, ◌∙◌, [], get_or, sym}
+use Rattle.std.proofs.Common.{◌∙◌, [], get_or, sym}
 use Rattle.std.proofs.lemmas.Bool.{eq-eqb}
 use Rattle.component_table.specs.declared.rows.CpRow.{CpRow}
 use Rattle.component_table.proofs.Taking.{different}

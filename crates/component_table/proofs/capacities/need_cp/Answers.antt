@@ -1,5 +1,4 @@
-use Rattle.std.proofs.Common.{◌≡◌, ◌∙◌, ◌<◌, ◌≤◌, ◌+◌, ℕ, List, ℤ, Option, Some, None, length, get_or, sym, ap, subst, not, arith}
-use Rattle.std.specs.Option.{is_some}
+use Rattle.std.proofs.Common.{◌≡◌, ◌∙◌, ◌<◌, List, ℤ, Option, Some, None, length, get_or, ap, subst, not, arith}
 use Rattle.component_table.proofs.Heats.{there-here, there-more, there-end, below-at, none_of, some_of}
 use Rattle.component_table.proofs.capacities.need_cp.Goals as goal
 
