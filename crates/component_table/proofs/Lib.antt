@@ -1,6 +1,7 @@
 pub mod Fields
 pub mod Places
 pub mod ByKind
+pub mod Heats
 pub mod Taking
 pub mod Signed
 pub mod Kept

@@ -1,3 +1,4 @@
+pub mod Capacities
 pub mod CsvText
 pub mod Records
 pub mod Rows

@@ -6,6 +6,7 @@ use Rattle.case_words.specs.Jobs.{Asked}
 use Rattle.case_words.specs.Names.{text_of}
 use Rattle.component_table.specs.declared.cases.CaseFault.{CaseFault}
 use Rattle.component_table.specs.declared.cases.Picked.{Picked}
+use Rattle.component_table.specs.Capacities.{capacity_in}
 use Rattle.component_table.specs.Rows.{plain_row}
 use Rattle.component_table.specs.Tables.{Held}
 use Rattle.component_table.specs.Choosing.{PlainChosen, chosen_of, four, row_in, interaction_of}
@@ -28,6 +29,7 @@ pub record Picks (t : Held) (asked : Asked) (picked : Picked) : Type 0 where
   pub case_is : IsCaseOf t asked chosen picked.case
   pub live : picked.live.items ≡ chosen.live
   pub names : map text_of picked.names.items ≡ asked.names
+  pub capacities : picked.cps.items ≡ map (capacity_in t.cps) chosen.places
 
 -- the fault is that of the first name without a component
 abbrev pub Refuses : Held → Asked → CaseFault → Type 0

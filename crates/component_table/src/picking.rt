@@ -9,6 +9,7 @@ ghost use Rattle.component_table.specs.Rows.{plain_row, is_pair_row};
 ghost use Rattle.component_table.specs.Choosing.{four, row_in, interaction_of};
 ghost use Rattle.component_table.specs.Picking.{Picks, Refuses};
 
+use crate::capacities::capacities_of;
 use crate::cases::{CaseFault, Picked};
 use crate::live_names::choose;
 use crate::rows::PairRow;
@@ -41,6 +42,7 @@ pub fn pick(table: &Table, job: &FlashWords) -> Result<Picked, CaseFault>
             edition: job.edition,
         },
         names: copy_of(job.names.as_slice()),
+        cps: capacities_of(&table.cps, chosen.places.as_slice()),
         live: chosen.live,
     })
 }

@@ -300,3 +300,29 @@ fn picks_the_live_components_in_the_order_of_the_names(rt: HostRuntime) -> Resul
     assert_eq!(rt; picked.names.len(), 3);
     Ok(())
 }
+
+#[test]
+fn names_the_first_live_name_without_a_heat_capacity(rt: HostRuntime) -> Result<(), Fail> {
+    let text =
+        b"comp,a,300,1000000,0,\ncomp,b,300,1000000,0,\ncomp,c,300,1000000,0,\ncp,c,1,-2,3,4\ncp,a,0,0,0,0\n";
+    assert!(rt; text.len() <= 4_194_304);
+    let Ok(table) = read_table(rt.alloc(), text) else {
+        return Err("refused table".into());
+    };
+    let cases: [(&str, Result<(), CaseFault>); 4] = [
+        ("z=1,1 names=c,a", Ok(())),
+        ("z=1,0,1 names=c,b,a", Ok(())),
+        ("z=0,1,1 names=b,a,b2", Err(CaseFault::NoName(3))),
+        ("z=1,0,1 names=a,c,b", Err(CaseFault::NoCp(3))),
+    ];
+    for (ending, want) in cases {
+        let mut line = String::from_str(rt.alloc(), "tp T=300 P=1000000 tol=1024 budget=1 ")?;
+        line.push_str(ending)?;
+        let asked = asked_by(rt.alloc(), &line)?;
+        match pick(&table, &asked) {
+            Ok(picked) => assert_eq!(rt; need_cp(&picked), want, "{ending}"),
+            Err(fault) => assert_eq!(rt; Err(fault), want, "{ending}"),
+        }
+    }
+    Ok(())
+}

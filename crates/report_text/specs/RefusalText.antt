@@ -11,7 +11,7 @@ use Rattle.case_words.specs.declared.faults.WordFault.TheVariants.{NoCommand, Un
 use Rattle.component_table.specs.declared.faults.TableFault.{TableFault}
 use Rattle.component_table.specs.declared.faults.TableFault.TheVariants as table
 use Rattle.component_table.specs.declared.cases.CaseFault.{CaseFault}
-use Rattle.component_table.specs.declared.cases.CaseFault.TheVariants.{NoName, Param}
+use Rattle.component_table.specs.declared.cases.CaseFault.TheVariants.{NoName, NoCp, Param}
 
 -- a fault at a place
 abbrev pub placed : List ℕ → ℕ → List ℕ
@@ -56,6 +56,7 @@ range_fault_text (ARange i j) = placed_twice (codes "ARange") i j
 
 abbrev pub case_fault_text : CaseFault → List ℕ
 case_fault_text (NoName name) = placed (codes "NoName") name
+case_fault_text (NoCp name) = placed (codes "NoCp") name
 case_fault_text (Param fault) = range_fault_text fault
 
 -- the input couldn't be read

@@ -59,6 +59,7 @@ pub fn put_case_fault(out: &mut Vec<u8>, fault: CaseFault) -> Result<(), AllocEr
 {
     match fault {
         CaseFault::NoName(name) => put_placed(out, "NoName", name),
+        CaseFault::NoCp(name) => put_placed(out, "NoCp", name),
         CaseFault::Param(fault) => put_range_fault(out, fault),
     }
 }

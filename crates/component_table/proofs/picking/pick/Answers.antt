@@ -6,7 +6,9 @@ use Rattle.case_types.specs.Ranges.{are_interactions}
 use Rattle.case_types.specs.declared.cases.Name.{Name}
 use Rattle.case_types.specs.declared.cases.Row.{Row}
 use Rattle.case_words.specs.Names.{text_of}
+use Rattle.component_table.specs.declared.rows.CpRow.{CpRow}
 use Rattle.component_table.specs.declared.rows.PairRow.{PairRow}
+use Rattle.component_table.specs.Capacities.{capacity_in}
 use Rattle.component_table.specs.Records.{PlainRow}
 use Rattle.component_table.specs.Rows.{plain_row, is_row, is_pair_row}
 use Rattle.component_table.specs.Choosing.{chosen_of, four, row_in, interaction_of}
@@ -86,6 +88,9 @@ returns-clause-picked c =
       };
       live = refl;
       names = ap (map text_of) (c.copy_of.ensures ∙ c.as_slice-3.ensures.value);
+      capacities = c.capacities_of.ensures.value
+          ∙ ap (λ (rows : List CpRow). map (capacity_in rows) c.as_slice-4.result.now) c.deref-4.ensures.value
+          ∙ ap (map (capacity_in c.args.table.now.cps.items)) c.as_slice-4.ensures.value;
     }
 
 pub invariant_of-result-2-clause-placed : goal.invariant_of-result-2-clause-placed
