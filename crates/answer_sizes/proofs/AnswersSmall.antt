@@ -1,19 +1,16 @@
 -- The numbers of a lawful answer are small.
-use Rattle.std.proofs.Common.{◌≡◌, ℕ, ◌^◌, ◌<◌, ◌≤◌, ℤ, pos, neg_ℤ, ◌-ℤ◌, ◌≤ℤ◌, unsigned_abs, subst, sym, arith}
-use Rattle.std.specs.List.{All}
+use Rattle.std.proofs.Common.{◌≡◌, ℕ, ◌^◌, ◌<◌, ◌≤◌, ℤ, pos, neg_ℤ, ◌-ℤ◌, ◌≤ℤ◌, unsigned_abs, subst, arith}
 use Rattle.std.proofs.lemmas.Int.{ints}
-use Rattle.case_types.specs.declared.phases.Phase.{Phase}
 use Rattle.case_types.specs.declared.planes.Plane.{Plane}
-use Rattle.case_types.specs.Arithmetic.Bounds.{energy_up, plane_at, potential}
+use Rattle.case_types.specs.Arithmetic.Bounds.{plane_at, potential}
 use Rattle.case_types.specs.Arithmetic.Numbers.{numbers_of}
-use Rattle.case_types.specs.Arithmetic.Splits.{phase_up, split_up}
 use Rattle.pr_surface.specs.PengRobinson.{surface_of}
 use Rattle.answer_sizes.specs.Sizes.{AnswersAreSmall}
+use Rattle.answer_sizes.proofs.AnySurface.{upper_small}
 use Rattle.answer_sizes.proofs.LowAbove.{last_low_least}
 use Rattle.answer_sizes.proofs.LowBelow.{low_at_most}
 use Rattle.answer_sizes.proofs.PlaneOver.{plane_at_feed_small}
 use Rattle.answer_sizes.proofs.PlaneSize.{last_plane_small}
-use Rattle.answer_sizes.proofs.UpperSize.{split_up_small}
 use Rattle.energy_surface.specs.Rounds.{own_of}
 
 record AreSmall (u low gap : ℤ) : Type 0 where
@@ -37,11 +34,7 @@ answers_are_small c tol budget a within few accepted h =
     small = last_plane_small (surface_of (numbers_of c)) c tol a.units a.work h.basis a.plane a.u h.found h.answer.components (omega (arith, h.answer.within, within)) h.work
 
     upper : unsigned_abs a.u ≤ 2 ^ 51
-    upper =
-        rw (h.answer.upper)
-        (subst (λ (n : ℕ). unsigned_abs (split_up n (energy_up (numbers_of c)) a.split) ≤ 2 ^ 51) (sym h.answer.components)
-        (split_up_small c (energy_up (numbers_of c)) a.split h.answer.divides few
-        (subst (λ (n : ℕ). All (λ (f : Phase). unsigned_abs (phase_up n (energy_up (numbers_of c)) f) < 2 ^ 49) a.split.phases.items) h.answer.components h.phases)))
+    upper = upper_small (surface_of (numbers_of c)) c tol budget a few h
 
     low : neg_ℤ (pos (2 ^ 71)) ≤ℤ a.low
     low =

@@ -3,7 +3,6 @@ use Rattle.std.proofs.Common.{◌≡◌, ℕ, ◌*◌, ◌^◌, ◌≤◌, Bool,
 use Rattle.std.specs.Prelude.{if◌then◌else◌, nat_le}
 use Rattle.std.proofs.lemmas.Int.{ints}
 use Rattle.log_laws.specs.LogSum.{LogSum, AtLeast}
-use Rattle.log_laws.proofs.Exports.{at_least_lowers, mul-le_ℤ}
 use Rattle.case_types.specs.declared.answers.Answer.{Answer}
 use Rattle.case_types.specs.declared.answers.Outcome.TheVariants.{Closed}
 use Rattle.case_types.specs.declared.cases.Case.{Case}
@@ -15,6 +14,7 @@ use Rattle.energy_surface.specs.Surfaces.{Surface}
 use Rattle.energy_surface.proofs.Exports.{closed_is_near}
 use Rattle.fibre_bound.specs.declared.fibres.Fibre.{Fibre}
 use Rattle.fibre_bound.specs.OnePhase.{HoldsOnePhase, IsBelowOnePhase}
+use Rattle.fibre_bound.proofs.Exports.{lowered_bits}
 use Rattle.edge_flash.specs.declared.classed.Classed.{Classed}
 use Rattle.edge_flash.specs.declared.classed.Classed.TheVariants.{End, Open, Param}
 use Rattle.edge_flash.specs.Ends.{IsFlashed, IsBeside, TellsBeside, SaysOf}
@@ -36,9 +36,6 @@ none_of None h = refl
 none_of (Some f) h = absurd (h f refl)
 
 -- ---- what an end means
-lowered_bits : (s : LogSum) (a b : ℤ) → a ≤ℤ b → AtLeast s (bits b) → AtLeast s (bits a)
-lowered_bits s a b h l = at_least_lowers s (bits b) (bits a) (lit< tt) (mul-le_ℤ a b (2 ^ 40) h) l
-
 below_less : (c : Case) (a b : ℤ) → a ≤ℤ b → IsBelowOnePhase c b → IsBelowOnePhase c a
 below_less c a b h below = λ x inst d f alone. lowered_bits _ a b h (below x inst d f alone)
 

@@ -1,3 +1,4 @@
+pub mod Enclosing
 pub mod Walking
 pub mod EndKinds
 pub mod Answered

@@ -47,7 +47,7 @@ in_half f c h =
     ]
 
 -- ---- every state of the feed in one phase has at least the low
-lowered_bits : (s : LogSum) (a b : ℤ) → a ≤ℤ b → AtLeast s (bits b) → AtLeast s (bits a)
+pub lowered_bits : (s : LogSum) (a b : ℤ) → a ≤ℤ b → AtLeast s (bits b) → AtLeast s (bits a)
 lowered_bits s a b h l = at_least_lowers s (bits b) (bits a) (lit< tt) (mul-le_ℤ a b (2 ^ 40) h) l
 
 held : (s : Surface) (c : Case) (energy : State → LogSum) (packings : List ℕ) (tol : ℕ) (d : Division) (f : State) → Bounds s energy → s.count ≡ c.n → IsAlone c d f →

@@ -1,7 +1,7 @@
 use Rattle.std.proofs.Common.{◌≡◌, ℕ, ◌-◌, arith}
 use Rattle.edge_flash.proofs.peng_robinson.walked.Goals as goal
 
--- a walk that begins with no unit spent
+-- no unit was spent before
 none_taken : (n : ℕ) → n - 0 ≡ n
 none_taken n = omega arith
 
