@@ -83,7 +83,8 @@ fn is_closed(outcome: &Outcome) -> bool
     *outcome == Outcome::Closed
 }
 
-/// The search of a job over a flash and a walk over the states of one phase.
+/// Looks for a phase boundary of the feed between two pressures in Pa or two temperatures in mK, by any flash and by any walk over the
+/// states of one phase. What its answers say is told at `edge`; the walk is this one in place of Peng and Robinson's.
 pub fn edge_by<F: Flash, P: OnePhase>(
     flash: &mut F,
     phases: &P,
