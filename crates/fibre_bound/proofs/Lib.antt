@@ -1,1 +1,9 @@
+pub mod Alone
+pub mod Bounding
+pub mod Covering
+pub mod Deep
 pub mod Exports
+pub mod Going
+pub mod OnePhase
+pub mod Small
+pub mod Sound

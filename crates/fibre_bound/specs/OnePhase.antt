@@ -43,3 +43,4 @@ FibresHold =
     (surface : Case → Surface) → BoundCases surface → ((c : Case) → (surface c).count ≡ c.n) →
     (c : Case) (packings : List ℕ) (tol units spent : ℕ) (f : Fibre) → fault_of c ≡ None → All IsInside packings →
     IsFibre (question_of (surface c) c packings tol) units spent f → HoldsOnePhase c tol f
+
