@@ -1,0 +1,5 @@
+pub mod Places
+pub mod Halts
+pub mod Phases
+pub mod Fibres
+pub mod Ends
