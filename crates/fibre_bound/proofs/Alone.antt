@@ -1,5 +1,5 @@
 -- A division of the feed of one phase alone: its phase is the feed, and has its energy.
-use Rattle.std.proofs.Common.{◌≡◌, ℕ, ◌+◌, ◌*◌, ◌^◌, ◌<◌, ◌≤◌, [], ◌∷◌, slice_index, ℤ, pos, ◌+ℤ◌, ◌*ℤ◌, ◌≤ℤ◌, lit<, refl, ap, sym, subst, ◌∙◌, arith}
+use Rattle.std.proofs.Common.{◌≡◌, ℕ, ◌+◌, ◌*◌, ◌^◌, ◌<◌, ◌≤◌, [], ◌∷◌, slice_index, ℤ, pos, ◌+ℤ◌, ◌*ℤ◌, ◌≤ℤ◌, lit<, ap, sym, subst, ◌∙◌, arith}
 use Rattle.std.proofs.Math.IntN.{*ℤ_comm}
 use Rattle.std.proofs.lemmas.Int.{ints}
 use Rattle.std.proofs.Math.Nat.{eq_of_mul-eq-mul_left, le_of_mul-le-mul_left, mul-le-mul_right}
@@ -8,7 +8,6 @@ use Rattle.log_laws.specs.LogSum.{LogSum, AtLeast, AtMost, ratio, scaled, consta
 use Rattle.log_laws.specs.Sums.{sum_below}
 use Rattle.log_laws.proofs.Exports.{scale_scale, sum_below-scaled_same, at_least_scales, at_least_lowers, at_least_adds_at, constant_at_least, lowered, at_most_scales, at_most_raises, at_most_adds_at, constant_at_most, heightened, parts_self}
 use Rattle.case_types.specs.declared.cases.Case.{Case}
-use Rattle.case_types.specs.declared.phases.Phase.{Phase}
 use Rattle.case_types.specs.Arithmetic.Bounds.{one, box_of_parts}
 use Rattle.case_types.specs.Arithmetic.Holding.{IsInBox}
 use Rattle.case_types.specs.Energy.Components.{feed}

@@ -1,16 +1,15 @@
 -- What a walk comes to are bounds: a state of the feed in one phase, and how near the low is.
-use Rattle.std.proofs.Common.{◌≡◌, ℕ, ◌*◌, ◌^◌, ◌<◌, ◌≤◌, ◌↔◌, List, All, ℤ, pos, ◌-ℤ◌, ◌≤ℤ◌, refl, ap, sym, subst, ◌∙◌, arith}
+use Rattle.std.proofs.Common.{ℕ, ◌^◌, List, All, refl, arith}
 use Rattle.std.proofs.lemmas.Int.{ints}
 use Rattle.case_types.specs.declared.cases.Case.{Case}
-use Rattle.case_types.specs.Arithmetic.Bounds.{Box, box_of_parts}
+use Rattle.case_types.specs.Arithmetic.Bounds.{box_of_parts}
 use Rattle.energy_surface.specs.Surfaces.{Surface}
-use Rattle.split_energies.specs.Scanned.{IsInside, state_at, lowest_of}
-use Rattle.split_energies.proofs.Exports.{IsLowest, lowest_is}
+use Rattle.split_energies.specs.Scanned.{IsInside, state_at}
+use Rattle.split_energies.proofs.Exports.{lowest_is}
 use Rattle.fibre_bound.specs.declared.fibres.Fibre.{Fibre}
-use Rattle.fibre_bound.specs.declared.fibres.FibreEnd.TheVariants.{Clear}
 use Rattle.fibre_bound.specs.Laws.{IsBound}
 use Rattle.fibre_bound.specs.Walks.{IsFibre, question_of}
-use Rattle.fibre_bound.proofs.Sound.{IsFirst, IsSound, sound, clear_exactly, grain_inside}
+use Rattle.fibre_bound.proofs.Sound.{IsFirst, sound, clear_exactly, grain_inside}
 
 -- the first state is one of the feed
 pub first_is : (s : Surface) (c : Case) (packings : List ℕ) (tol : ℕ) → All IsInside packings → IsFirst (question_of s c packings tol)

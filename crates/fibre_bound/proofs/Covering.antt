@@ -1,5 +1,5 @@
 -- A walk covers all packing fractions: each lies in a cell that was cleared, or in one that is left.
-use Rattle.std.proofs.Common.{◌≡◌, ℕ, ◌⊎◌, ◌+◌, ◌-◌, ◌<◌, ◌≤◌, List, [], ◌∷◌, Option, Some, None, ℤ, ◌≤ℤ◌, inl, inr, refl, ap, sym, subst, ◌∙◌}
+use Rattle.std.proofs.Common.{◌≡◌, ℕ, ◌⊎◌, List, [], ◌∷◌, Option, Some, ℤ, ◌≤ℤ◌, inl, inr, refl, subst}
 use Rattle.case_types.specs.Arithmetic.Bounds.{one}
 use Rattle.fibre_bound.specs.declared.fibres.Fibre.{Fibre}
 use Rattle.fibre_bound.specs.declared.fibres.FibreEnd.{FibreEnd}

@@ -1,5 +1,5 @@
 -- A stack of a walk has no more cells than halvings.
-use Rattle.std.proofs.Common.{◌≡◌, ℕ, zero, suc, ◌+◌, ◌-◌, ◌*◌, ◌/◌, ◌^◌, ◌<◌, ◌≤◌, List, [], ◌∷◌, length, refl, arith}
+use Rattle.std.proofs.Common.{◌≡◌, ℕ, zero, suc, ◌+◌, ◌-◌, ◌/◌, ◌^◌, ◌<◌, ◌≤◌, List, [], ◌∷◌, length, refl, arith}
 use Rattle.std.proofs.Math.Nat.{pow-suc}
 use Rattle.log_laws.proofs.Exports.{pow_pos_of}
 use Rattle.case_types.specs.Arithmetic.Bounds.{one}

@@ -1,18 +1,15 @@
 -- A walk goes on by one step, and ends.
-use Rattle.std.proofs.Common.{◌≡◌, ℕ, ◌⊎◌, ◌+◌, ◌-◌, ◌*◌, ◌/◌, ◌^◌, ◌<◌, ◌≤◌, List, [], ◌∷◌, length, map, Bool, true, false, Option, Some, None, ℤ, ◌-ℤ◌, ◌≤ℤ◌, ◌<ℤ◌, int_le, unsigned_abs, IfSome, IfNone, inl, inr, refl, ap, sym, subst, ◌∙◌, arith}
-use Rattle.std.proofs.lemmas.Int.{ints}
+use Rattle.std.proofs.Common.{◌≡◌, ℕ, ◌⊎◌, ◌+◌, ◌-◌, ◌^◌, ◌<◌, ◌≤◌, List, [], ◌∷◌, true, false, Option, Some, None, ℤ, ◌-ℤ◌, ◌≤ℤ◌, ◌<ℤ◌, int_le, unsigned_abs, IfSome, IfNone, inl, inr, refl, ap, sym, subst, ◌∙◌, arith}
 use Rattle.case_types.specs.declared.parts.PackingLogs.{PackingLogs}
-use Rattle.case_types.specs.Arithmetic.Bounds.{Box, one}
+use Rattle.case_types.specs.Arithmetic.Bounds.{Box}
 use Rattle.energy_surface.specs.Surfaces.{Surface}
 use Rattle.split_energies.specs.declared.scans.Scanned.{Scanned}
 use Rattle.split_energies.specs.Scanned.{state_at}
 use Rattle.fibre_bound.specs.declared.cells.Cell.{Cell}
 use Rattle.fibre_bound.specs.declared.fibres.Fibre.{Fibre}
-use Rattle.fibre_bound.specs.declared.fibres.FibreEnd.{FibreEnd}
-use Rattle.fibre_bound.specs.declared.fibres.FibreEnd.TheVariants.{Clear, Spent, Grain}
 use Rattle.fibre_bound.specs.Cells.{IsCell, AreCells, span_of, spans_of}
 use Rattle.fibre_bound.specs.Lows.{least_of}
-use Rattle.fibre_bound.specs.Walks.{Question, Span, span, middle, low_of, Trail, IsOpen, IsLower, IsNoLower, lesser, cleared, lowered, halved, Reaches, least_over, EndsSo, LowIs, IsFibre}
+use Rattle.fibre_bound.specs.Walks.{Question, span, middle, low_of, Trail, IsOpen, IsNoLower, lesser, Reaches, least_over, EndsSo, LowIs, IsFibre}
 use Rattle.fibre_bound.specs.Walks.Reaches.{Clears, Lowers, Halves}
 
 -- where a walk stands

@@ -1,14 +1,14 @@
 -- Bounds of the feed in one phase hold for every instance.
-use Rattle.std.proofs.Common.{◌≡◌, ℕ, ◌⊎◌, ◌+◌, ◌*◌, ◌/◌, ◌^◌, ◌<◌, ◌≤◌, List, [], ◌∷◌, All, None, ℤ, pos, ◌*ℤ◌, ◌≤ℤ◌, ◌<ℤ◌, slice_index, lit<, inl, inr, refl, ap, sym, subst, ◌∙◌, arith}
+use Rattle.std.proofs.Common.{◌≡◌, ℕ, ◌⊎◌, ◌*◌, ◌^◌, ◌<◌, ◌≤◌, List, [], All, ℤ, pos, ◌*ℤ◌, ◌≤ℤ◌, ◌<ℤ◌, lit<, inl, inr, refl, subst, arith}
 use Rattle.std.proofs.lemmas.Int.{ints}
 use Rattle.std.proofs.lemmas.List.Elements.{All-cons, All-nil, All-head}
-use Rattle.log_laws.specs.LogSum.{LogSum, AtLeast, AtMost, ratio}
+use Rattle.log_laws.specs.LogSum.{LogSum, AtLeast, ratio}
 use Rattle.log_laws.proofs.Exports.{at_least_lowers, mul-le_ℤ}
 use Rattle.case_types.specs.declared.cases.Case.{Case}
-use Rattle.case_types.specs.Arithmetic.Bounds.{Box, one, box_of_parts}
+use Rattle.case_types.specs.Arithmetic.Bounds.{one, box_of_parts}
 use Rattle.case_types.specs.Arithmetic.Numbers.{enclosures_of}
 use Rattle.case_types.specs.Energy.Components.{feed}
-use Rattle.case_types.specs.Energy.Divisions.{State, IsState, Division, Divides, bits, energy_of, energy_of_division}
+use Rattle.case_types.specs.Energy.Divisions.{State, IsState, Division, Divides, bits, energy_of}
 use Rattle.case_types.specs.Energy.Instances.{Instance, IsInstance}
 use Rattle.case_types.proofs.Exports.{total, total_positive}
 use Rattle.energy_surface.specs.Energies.{Bounds}
@@ -16,7 +16,7 @@ use Rattle.energy_surface.specs.Surfaces.{Surface}
 use Rattle.fibre_bound.specs.declared.fibres.Fibre.{Fibre}
 use Rattle.fibre_bound.specs.Laws.{IsAlone, IsBound}
 use Rattle.fibre_bound.specs.OnePhase.{one_phase, IsBelowOnePhase, IsOnePhase, FibresHold}
-use Rattle.fibre_bound.specs.Walks.{Question, Span, span, middle, low_of, IsFibre, question_of}
+use Rattle.fibre_bound.specs.Walks.{Span, span, middle, IsFibre, question_of}
 use Rattle.fibre_bound.proofs.Alone.{alone_at_least, alone_at_most, alone_parts, alone_moles, in_box_of_feed, feed_top}
 use Rattle.fibre_bound.proofs.Bounding.{fibre_is_bound}
 use Rattle.fibre_bound.proofs.Covering.{IsHeld, low_holds}

@@ -1,13 +1,12 @@
 -- What holds wherever a walk stands: its state is one of the feed, and the lows of what it cleared are near.
-use Rattle.std.proofs.Common.{◌≡◌, ℕ, ◌⊎◌, ◌+◌, ◌-◌, ◌*◌, ◌^◌, ◌<◌, ◌≤◌, ◌↔◌, List, [], ◌∷◌, Option, Some, None, ℤ, pos, ◌-ℤ◌, ◌≤ℤ◌, ◌<ℤ◌, inl, inr, refl, ap, sym, subst, ◌∙◌, arith}
+use Rattle.std.proofs.Common.{◌≡◌, ℕ, ◌<◌, ◌≤◌, ◌↔◌, List, [], ◌∷◌, Option, Some, None, ℤ, pos, ◌-ℤ◌, ◌≤ℤ◌, refl, subst, arith}
 use Rattle.std.proofs.lemmas.Int.{ints, clamps}
 use Rattle.std.specs.Int.{int_min}
 use Rattle.case_types.specs.Arithmetic.Bounds.{one}
-use Rattle.fibre_bound.specs.declared.fibres.Fibre.{Fibre}
 use Rattle.fibre_bound.specs.declared.fibres.FibreEnd.{FibreEnd}
 use Rattle.fibre_bound.specs.declared.fibres.FibreEnd.TheVariants.{Clear, Spent, Grain}
 use Rattle.fibre_bound.specs.Laws.{GrainIsInside}
-use Rattle.fibre_bound.specs.Walks.{Question, Span, span, middle, low_of, Trail, begun, IsCleared, IsOpen, lesser, cleared, lowered, halved, Reaches, least_over, EndsSo, LowIs, IsFibre}
+use Rattle.fibre_bound.specs.Walks.{Question, Span, middle, low_of, Trail, IsOpen, lesser, Reaches, least_over, EndsSo, LowIs}
 use Rattle.fibre_bound.specs.Walks.Reaches.{Begins, Clears, Lowers, Halves}
 use Rattle.fibre_bound.proofs.Deep.{IsDeep, deep_whole, deep_rest, deep_inside, deep_ordered, middle_below, deep_halves}
 

@@ -1,5 +1,5 @@
 -- What the feed and the cells of a walk hold.
-use Rattle.std.specs.Prelude.{ℕ, ◌≡◌, ◌<◌, List, [], ◌∷◌, map, ℤ}
+use Rattle.std.specs.Prelude.{ℕ, ◌≡◌, ◌<◌, List, [], ◌∷◌, map}
 use Rattle.case_types.specs.declared.parts.MixLow.{MixLow}
 use Rattle.case_types.specs.declared.parts.MixUp.{MixUp}
 use Rattle.case_types.specs.declared.parts.PackingLogs.{PackingLogs}

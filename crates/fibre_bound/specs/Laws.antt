@@ -1,5 +1,5 @@
 -- What a walk over the packing fractions of the feed in one phase says of the energies of its states.
-use Rattle.std.specs.Prelude.{ℕ, ◌≡◌, ◌+◌, ◌*◌, ◌^◌, ◌<◌, ◌≤◌, ◌↔◌, [], ◌∷◌, ℤ, pos, ◌-ℤ◌, ◌≤ℤ◌}
+use Rattle.std.specs.Prelude.{ℕ, ◌≡◌, ◌*◌, ◌^◌, ◌<◌, ◌≤◌, ◌↔◌, [], ◌∷◌, pos, ◌-ℤ◌, ◌≤ℤ◌}
 use Rattle.case_types.specs.declared.cases.Case.{Case}
 use Rattle.case_types.specs.Arithmetic.Bounds.{box_of_parts}
 use Rattle.energy_surface.specs.Surfaces.{Surface}

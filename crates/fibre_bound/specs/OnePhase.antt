@@ -1,5 +1,5 @@
 -- The feed in one phase: what bounds of its energy promise, whatever the instance.
-use Rattle.std.specs.Prelude.{ℕ, ◌≡◌, ◌*◌, ◌^◌, ◌<◌, ◌≤◌, ◌↔◌, All, List, [], ◌∷◌, ℤ, pos, ◌-ℤ◌, ◌≤ℤ◌, None, slice_index}
+use Rattle.std.specs.Prelude.{ℕ, ◌≡◌, ◌*◌, ◌^◌, ◌<◌, ◌≤◌, ◌↔◌, All, List, [], ◌∷◌, ℤ, pos, ◌-ℤ◌, ◌≤ℤ◌, None}
 use Rattle.log_laws.specs.LogSum.{AtLeast, AtMost, ratio}
 use Rattle.case_types.specs.declared.cases.Case.{Case}
 use Rattle.case_types.specs.Arithmetic.Faults.{fault_of}
@@ -43,4 +43,3 @@ FibresHold =
     (surface : Case → Surface) → BoundCases surface → ((c : Case) → (surface c).count ≡ c.n) →
     (c : Case) (packings : List ℕ) (tol units spent : ℕ) (f : Fibre) → fault_of c ≡ None → All IsInside packings →
     IsFibre (question_of (surface c) c packings tol) units spent f → HoldsOnePhase c tol f
-

@@ -83,5 +83,9 @@ pub fn lower_state<S: Surface>(
         packing: logs.packing,
         up: surface.up(&feed.up, logs),
     };
-    if state.up < best.up { Some(state) } else { None }
+    if state.up < best.up {
+        Some(state)
+    } else {
+        None
+    }
 }

@@ -1,8 +1,8 @@
-use Rattle.std.proofs.Common.{rules, ◌≡◌, ℕ, ◌-◌, ◌*◌, ◌^◌, ◌≤◌, ◌*ℤ◌, ℤ, pos, FitsSigned, to_z, of_z, refl, ap, sym, subst, ◌∙◌, arith}
+use Rattle.std.proofs.Common.{rules, ◌≡◌, ℕ, ◌-◌, ◌*◌, ◌^◌, ◌≤◌, ◌*ℤ◌, ℤ, pos, FitsSigned, to_z, of_z, ap, subst, ◌∙◌, arith}
 use Rattle.std.specs.Int.{w128}
 use Rattle.std.proofs.lemmas.Int.{ints}
 use Rattle.log_laws.proofs.Exports.{back}
-use Rattle.case_types.specs.Arithmetic.Bounds.{Box, box_of, box_of_parts}
+use Rattle.case_types.specs.Arithmetic.Bounds.{Box, box_of}
 use Rattle.split_energies.specs.declared.scans.Scanned.{Scanned}
 use Rattle.split_energies.specs.Scanned.{state_at, lowest_of}
 use Rattle.fibre_bound.specs.Walks.{IsFibre, question_of, question_over}

@@ -1,17 +1,14 @@
-use Rattle.std.proofs.Common.{rules, ◌≡◌, ℕ, ◌+◌, ◌-◌, ◌*◌, ◌/◌, ◌^◌, ◌<◌, ◌≤◌, List, [], ◌∷◌, length, Bool, true, false, Option, Some, None, ℤ, ◌-ℤ◌, int_le, to_z, of_z, unsigned_abs, refl, ap, sym, subst, ◌∙◌, arith}
-use Rattle.std.specs.Int.{w128}
+use Rattle.std.proofs.Common.{rules, ◌≡◌, ℕ, ◌-◌, ◌<◌, ◌≤◌, List, [], ◌∷◌, length, false, ◌-ℤ◌, int_le, refl, ap, sym, subst, ◌∙◌, arith}
 use Rattle.std.proofs.lemmas.List.{length-map}
-use Rattle.log_laws.proofs.Exports.{back}
-use Rattle.case_types.specs.Arithmetic.Bounds.{Box, one, box_of}
+use Rattle.case_types.specs.Arithmetic.Bounds.{Box, box_of}
 use Rattle.energy_surface.specs.Surfaces.{Surface}
-use Rattle.split_energies.specs.declared.scans.Scanned.{Scanned}
 use Rattle.fibre_bound.specs.declared.cells.Cell.{Cell}
 use Rattle.fibre_bound.specs.Cells.{IsCell, AreCells, span_of, spans_of}
-use Rattle.fibre_bound.specs.Walks.{Question, Span, span, middle, question_over, Reaches, lesser}
+use Rattle.fibre_bound.specs.Walks.{Question, span, middle, question_over, Reaches}
 use Rattle.fibre_bound.specs.Walks.Reaches.{Begins}
 use Rattle.fibre_bound.proofs.Deep.{IsDeep, deep_whole, deep_rest, deep_room, deep_inside, middle_below, deep_halves}
 use Rattle.fibre_bound.proofs.Going.{trail, IsInHand, opened, IsMiddle, lower_state, no_lower, wanted, clears, lowers, halves, least_some, stops, cells_more, cells_none, cells_top}
-use Rattle.fibre_bound.proofs.Small.{IsSmall, small_lesser, small_stopped}
+use Rattle.fibre_bound.proofs.Small.{small_lesser, small_stopped}
 use Rattle.fibre_bound.proofs.walking.walk.Goals.{In-Some, After-lower_state-lower}
 use Rattle.fibre_bound.proofs.walking.walk.Goals as goal
 
@@ -92,7 +89,7 @@ loop-hand-preserved-then-is_clear g c =
       cells = (cells g here).1;
       deep = deep_rest (span_of held) (spans_of (rest g here)) (deep g here);
       reaches = rw e
-      (clears (question g here) (budget g here) c.loop-hand.best c.loop-hand.least held (rest g here) (spent g here) (reaches g here) (cells g here).0.low
+          (clears (question g here) (budget g here) c.loop-hand.best c.loop-hand.least held (rest g here) (spent g here) (reaches g here) (cells g here).0.low
           (sym c.is_clear.ensures ∙ c.if-is_clear.true));
       small = c.loop-hand.invariant.small;
       low_small = rw e (small_lesser c.loop-hand.least held.low c.loop-hand.invariant.low_small held.low_small);
@@ -120,9 +117,15 @@ returns-then-is_stuck-clause-fibre g c =
     let none = no_lower (s g here) (x g here) c.loop-hand.best c.middle-logs.result.packing c.lower_state-lower.result between (c.is_stuck.ensures.none c.if-is_stuck.true) in
     stops (s g here) (x g here) (g.S.Surface.are_logs c.args.surface.now) (question g here) (budget g here) c.loop-hand.best c.loop-hand.least c.least_low.result held (rest g here) (spent g here) c.ended.result
     refl (all g here) (reaches g here) c.least_low.ensures c.ended.ensures.packing c.ended.ensures.up c.ended.ensures.low
-    (rw c.ended.ensures.end
-    (span_of held, spans_of (rest g here), refl, opened (question g here) (budget g here) c.loop-hand.best c.loop-hand.least held (rest g here) (spent g here) in_hand, rw c.middle-logs.ensures.at at none,
-        c.is_stuck.ensures.unit c.if-is_stuck.true, refl))
+    (rw c.ended.ensures.end (
+      span_of held,
+      spans_of (rest g here),
+      refl,
+      opened (question g here) (budget g here) c.loop-hand.best c.loop-hand.least held (rest g here) (spent g here) in_hand,
+      rw c.middle-logs.ensures.at at none,
+      c.is_stuck.ensures.unit c.if-is_stuck.true,
+      refl,
+    ))
     (λ z h. rw c.ended.ensures.end h)
 
 pub returns-then-is_stuck-clause-low_small : goal.returns-then-is_stuck-clause-low_small
@@ -143,9 +146,14 @@ returns-then-is_spent-clause-fibre g c =
     stops (s g here) (x g here) (g.S.Surface.are_logs c.args.surface.now) (question g here) (budget g here) c.loop-hand.best c.loop-hand.least c.least_low-then-is_spent.result held (rest g here) (spent g here)
     c.ended-then-is_spent.result
     refl (all g here) (reaches g here) c.least_low-then-is_spent.ensures c.ended-then-is_spent.ensures.packing c.ended-then-is_spent.ensures.up c.ended-then-is_spent.ensures.low
-    (rw c.ended-then-is_spent.ensures.end
-    (span_of held, spans_of (rest g here), refl, opened (question g here) (budget g here) c.loop-hand.best c.loop-hand.least held (rest g here) (spent g here) in_hand, rw c.middle-logs.ensures.at at wants,
-        rw (all_spent, c.loop-hand.invariant.budget) refl))
+    (rw c.ended-then-is_spent.ensures.end (
+      span_of held,
+      spans_of (rest g here),
+      refl,
+      opened (question g here) (budget g here) c.loop-hand.best c.loop-hand.least held (rest g here) (spent g here) in_hand,
+      rw c.middle-logs.ensures.at at wants,
+      rw (all_spent, c.loop-hand.invariant.budget) refl,
+    ))
     (λ z h. rw c.ended-then-is_spent.ensures.end h)
 
 pub returns-then-is_spent-clause-low_small : goal.returns-then-is_spent-clause-low_small
@@ -171,7 +179,7 @@ loop-hand-preserved-in-Some-lower g c =
       cells = rw c.push.ensures (all g here);
       deep = rw c.push.ensures (deep g here);
       reaches = rw c.push.ensures
-      (lowers (question g here) (budget g here) c.loop-hand.best c.in-Some-lower.state c.loop-hand.least held (rest g here) (spent g here) (c.spend.new.self.spent - c.args.units.now.spent) in_hand
+          (lowers (question g here) (budget g here) c.loop-hand.best c.in-Some-lower.state c.loop-hand.least held (rest g here) (spent g here) (c.spend.new.self.spent - c.args.units.now.spent) in_hand
           (rw c.middle-logs.ensures.at at state.some) (state.packing ∙ c.middle-logs.ensures.at) (state.up ∙ ap (λ y. (s g here).up (x g here) y) c.middle-logs.ensures.at) state.lower
           (omega (arith, left, c.loop-hand.invariant.budget, c.loop-hand.invariant.spent)) (omega (arith, c.spend.ensures.spent, c.loop-hand.invariant.spent)));
       small = state.small;
@@ -215,7 +223,7 @@ loop-hand-preserved g c =
       cells = rw stack (cells_more s x logs lower (upper ∷ rest g here) c.cell_between-in-Some.ensures.cell (cells_more s x logs upper (rest g here) c.cell_between.ensures.cell (cells g here).1));
       deep = rw (stack, first, second) (deep_halves (span_of held) (spans_of (rest g here)) wide (deep g here));
       reaches = rw stack
-      (halves (question g here) (budget g here) c.loop-hand.best c.loop-hand.least held lower upper (rest g here) (spent g here) (c.spend.new.self.spent - c.args.units.now.spent) in_hand
+          (halves (question g here) (budget g here) c.loop-hand.best c.loop-hand.least held lower upper (rest g here) (spent g here) (c.spend.new.self.spent - c.args.units.now.spent) in_hand
           (rw c.middle-logs.ensures.at at none) wide first second
           (omega (arith, left, c.loop-hand.invariant.budget, c.loop-hand.invariant.spent)) (omega (arith, c.spend.ensures.spent, c.loop-hand.invariant.spent)));
       small = c.loop-hand.invariant.small;
