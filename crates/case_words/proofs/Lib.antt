@@ -7,5 +7,4 @@ pub mod Asking
 pub mod Steps
 pub mod Kept
 pub mod FirstKey
-pub mod Unnamed
 pub mod Exports

@@ -21,7 +21,7 @@ pub enum Command {
 impl Command {
     ghost use Rattle.case_words.specs.Commands.{command_of, keys_of, takes_edition, searched_by};
 
-    /// The command that is spelled so. No search for a phase boundary has its name yet.
+    /// The command that is spelled so.
     #[tactic(auto, unfolding(crate::specs::Commands::command_of))]
     pub fn from_bytes(bytes: &[u8]) -> Option<Command>
         ensures { result ≡ command_of bytes.now }
@@ -30,6 +30,14 @@ impl Command {
             Some(Command::Tp)
         } else if bytes == b"cert".as_slice() {
             Some(Command::Cert)
+        } else if bytes == b"bubble-p".as_slice() {
+            Some(Command::Edge(By::Pressure, Side::Bubble))
+        } else if bytes == b"dew-p".as_slice() {
+            Some(Command::Edge(By::Pressure, Side::Dew))
+        } else if bytes == b"bubble-t".as_slice() {
+            Some(Command::Edge(By::Temperature, Side::Bubble))
+        } else if bytes == b"dew-t".as_slice() {
+            Some(Command::Edge(By::Temperature, Side::Dew))
         } else if bytes == b"check".as_slice() {
             Some(Command::Check)
         } else {

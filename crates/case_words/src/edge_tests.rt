@@ -240,13 +240,18 @@ fn reads_ends_and_width(rt: HostRuntime) -> Result<(), Fail> {
 }
 
 #[test]
-fn has_no_name_yet(rt: HostRuntime) -> Result<(), Fail> {
-    for name in ["bubble-p", "dew-p", "bubble-t", "dew-t"] {
-        let words = words_of(rt.alloc(), name)?;
+fn reads_the_names_of_searches(rt: HostRuntime) -> Result<(), Fail> {
+    for (line, key) in [
+        ("bubble-p", Key::T),
+        ("dew-p lo=1000", Key::T),
+        ("bubble-t lo=50", Key::P),
+        ("dew-t names=a", Key::P),
+    ] {
+        let words = words_of(rt.alloc(), line)?;
         assert_eq!(rt;
             read_words(&words).err(),
-            Some(WordFault::NoCommand),
-            "{name}"
+            Some(WordFault::Missing(key)),
+            "{line}"
         );
     }
     Ok(())

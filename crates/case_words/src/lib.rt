@@ -1,9 +1,10 @@
 //! The words of the command line: the job that they ask for, or the first fault with its place.
 //!
 //! The first word is the command, every other is `key=value`. [`read_words`] answers exactly the job of its words, or exactly
-//! their first fault. It takes no memory. The commands are `tp`, `cert` and `check`. The first two have the same keys and want each of
-//! them once, in any order, but for the edition of the equation, which may be left out; `check` has none. A search for a phase
-//! boundary has no name among the commands yet; [`read_further`] reads its further words as those of any other command.
+//! their first fault. It takes no memory. The commands are `tp`, `cert`, `check`, and the searches for a phase boundary `bubble-p`,
+//! `dew-p`, `bubble-t` and `dew-t`. `tp` and `cert` have the same keys; a search has the ends and the width of the quantity that it goes
+//! over in the place of that quantity. Each key stands once, in any order, but for the edition of the equation, which may be left out;
+//! `check` has none.
 #![tactic(auto)]
 
 mod boundaries;

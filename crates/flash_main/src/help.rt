@@ -14,6 +14,10 @@ usage: flash_main tp T=<K> P=<Pa> z=<parts> names=<names> tol=<n> budget=<n>
                      [kappa=76|78] < table
        flash_main cert <the words of tp> < table
        flash_main check < certificate
+       flash_main bubble-p T=<K> lo=<Pa> hi=<Pa> width=<Pa> <z to kappa, as tp> < table
+       flash_main dew-p <the words of bubble-p> < table
+       flash_main bubble-t P=<Pa> lo=<K> hi=<K> width=<K> <z to kappa, as tp> < table
+       flash_main dew-t <the words of bubble-t> < table
        flash_main --help
        flash_main --version
 
@@ -23,11 +27,16 @@ tp     flashes a feed at a temperature and a pressure by the equation of Peng an
 cert   flashes so, and prints the certificate of its answer, open ones too.
 check  reads a certificate and prints whether it holds. All is computed anew: what is
        accepted has the stated energy and gap, whatever made the certificate.
+bubble-p, bubble-t, dew-p, dew-t
+       search between two pressures, or two temperatures, for the boundary between one
+       phase, liquid (bubble) or vapour (dew), and several. Both ends of what is printed
+       are certified, one as divided into phases and the other as one phase.
 
-Words of tp and cert, in any order and each of them once; only kappa may be left out.
-check takes none:
+Words, in any order and each of them once; only kappa may be left out. check takes none:
   T=300.15         temperature in K, 50 to 1500, with up to 3 places
   P=1000000        pressure in Pa, 1000 to 100000000
+  lo=100 hi=320    the ends of a search, in Pa or K, lo below hi
+  width=0.1        the most that the printed ends differ, in Pa or K, above 0
   z=1,0            parts of the feed, one to four whole numbers
   names=a,b        the components of the parts
   tol=1024         tolerance in 2^-20 bit, 128 to 1048576
@@ -44,9 +53,10 @@ Example:
   printf 'comp,a,300,1000000,0,\\n' | \\
       flash_main tp T=300 P=1000000 z=1 names=a tol=1024 budget=200000
 
-Status: 0 closed, or accepted; 2 words, 3 table, 4 case refused; 5 open, the budget or
-the grid was spent; 6 reading, 7 writing failed; 8 want of memory; 9 the certificate is
-refused; 11 the table or the certificate is too long.
+Status: 0 closed, accepted, or a bracket; 2 words, 3 table, 4 case refused; 5 open, the
+budget or the grid was spent; 6 reading, 7 writing failed; 8 want of memory; 9 the
+certificate is refused; 10 the ends of a search aren't of the two wanted kinds; 11 the
+table or the certificate is too long.
 
 A refusal names the first fault. Words, records, fields, components, lines, letters and
 leaves count from 1, the command being word 1; <wrong> is Empty, Sign, Digit, Places or
@@ -56,7 +66,7 @@ TooLarge.
   refused table   Fields, Utf8, Kind, UnknownName, Twice or TooMany <record>;
                   Range <record> <field>; Number <record> <field> <wrong>
   refused case    NoName <name>; BRange; BRatio; MRange <component>;
-                  ARange <component> <component>
+                  ARange <component> <component>; of a search, then at=<place>
   refused certificate
                   Head; Line <line>; Tree <letter>; Cut; Extra <byte>; BadParams;
                   BadBalance <component>; BadEnergy; BadGap; BadLeaf <leaf>
