@@ -11,4 +11,5 @@ pub mod SlopeSize
 pub mod PlainSize
 pub mod LowAbove
 pub mod AnswersSmall
+pub mod AnySurface
 pub mod Exports

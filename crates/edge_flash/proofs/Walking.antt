@@ -1,11 +1,11 @@
 -- The walk of a search for a boundary: what a step keeps of the ends in hand, and what a halt says.
 use Rattle.std.proofs.Common.{◌≡◌, ℕ, ◌+◌, ◌-◌, ◌/◌, ◌<◌, ◌≤◌, Bool, true, false, not, refl, sym, subst, arith}
-use Rattle.std.specs.Prelude.{if◌then◌else◌, ◌&&◌, ◌||◌, IsTrue}
+use Rattle.std.specs.Prelude.{if◌then◌else◌, ◌&&◌, ◌||◌}
 use Rattle.case_types.specs.declared.edges.EdgeEnd.{EdgeEnd}
 use Rattle.case_types.specs.declared.edges.EdgeAnswer.TheVariants.{Bracket, NoEdge, Stopped, Refused}
 use Rattle.case_types.specs.declared.edges.Kind.{Kind}
 use Rattle.case_types.specs.declared.edges.Kind.TheVariants.{Divided, Liquid, Vapour}
-use Rattle.case_types.specs.Brackets.{Search, Hand, hand, middle, with_middle, Walk, IsNext}
+use Rattle.case_types.specs.Brackets.{Search, hand, with_middle, Walk, IsNext}
 use Rattle.case_types.specs.Brackets.Walk.{Begins, Halves}
 use Rattle.case_words.specs.declared.boundaries.Side.{Side}
 use Rattle.case_words.specs.declared.boundaries.Side.TheVariants.{Bubble, Dew}

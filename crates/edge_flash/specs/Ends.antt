@@ -76,9 +76,9 @@ pub record IsFlashed (s : Surface) (c : Case) (tol budget : ℕ) (a : Answer) : 
 pub record IsOpenFlash (s : Surface) (c : Case) (tol budget : ℕ) (outcome : Outcome) (units : ℕ) : Type 0 where
   pub answer : Answer
   pub flashed : IsFlashed s c tol budget answer
-  pub outcome : answer.outcome ≡ outcome
+  pub same : answer.outcome ≡ outcome
   pub not_closed : outcome ≢ Outcomes.Closed
-  pub units : answer.units ≡ units
+  pub spent : answer.units ≡ units
 
 -- the packing fractions of a cell of one unit, with no fractions of components
 abbrev pub grain_region : ℕ → Region

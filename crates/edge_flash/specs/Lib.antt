@@ -3,3 +3,5 @@ pub mod Halts
 pub mod Phases
 pub mod Fibres
 pub mod Ends
+pub mod PengRobinson
+pub mod Listed

@@ -26,7 +26,7 @@ pub record WholeAt (c : Case) (tol : ℕ) (gap : ℤ) (kind : Kind) : Type 0 whe
   pub state : IsOnePhase c packing up
   pub certified : Certified c (enclosures_of c) (one_phase c packing) up gap
   pub near : gap ≤ℤ pos (2 * tol * 2 ^ 20)
-  pub kind : kind ≡ phase_kind packing
+  pub called : kind ≡ phase_kind packing
 
 abbrev pub IsKindAt : Case → ℕ → Kind → ℤ → Type 0
 IsKindAt c tol Divided gap = DividedAt c tol gap

@@ -1,5 +1,5 @@
 -- Which ends a phase boundary lies between, and what a search over places answers, whatever is said of the places.
-use Rattle.std.specs.Prelude.{ℕ, ◌≡◌, ◌+◌, ◌-◌, ◌≤◌, ◌<◌, ◌⊎◌, Bool, true, false, not, ◌&&◌, ◌||◌, IsTrue, IsFalse}
+use Rattle.std.specs.Prelude.{ℕ, ◌≡◌, ◌+◌, ◌-◌, ◌≤◌, ◌<◌, Bool, true, false, not, ◌&&◌, ◌||◌, IsFalse}
 use Rattle.case_types.specs.declared.edges.EdgeAnswer.{EdgeAnswer}
 use Rattle.case_types.specs.declared.edges.EdgeAnswer.TheVariants.{Bracket, NoEdge, Stopped, Refused}
 use Rattle.case_types.specs.declared.edges.EdgeEnd.{EdgeEnd}

@@ -13,8 +13,10 @@ pub fn case_at(case: &Case, by: By, place: u32) -> Case
     requires high { place ≤ greatest by }
     ensures { IsCaseAt by case.now place result }
 {
+    let mut there = *case;
     match by {
-        By::Pressure => Case { p: place, ..*case },
-        By::Temperature => Case { t: place, ..*case },
+        By::Pressure => there.p = place,
+        By::Temperature => there.t = place,
     }
+    there
 }

@@ -16,6 +16,7 @@ use case_words::{EdgeWords, FlashWords};
 use energy_surface::Flash;
 
 /// The places of a job, over a flash and a walk over the states of one phase.
+#[derive(Drop)]
 struct FlashPlaces<'a, F, P> {
     flash: &'a mut F,
     phases: &'a P,
@@ -72,6 +73,7 @@ fn classified<F: Flash, P: OnePhase>(
 fn phases_are_few(answer: &Answer)
     ensures { length answer.now.split.phases.items ≤ 4 }
 {
+    let _phases = answer.split.phases.as_slice();
 }
 
 /// Whether a flash closes.

@@ -9,10 +9,16 @@ mod ends;
 mod fibres;
 mod flash_places;
 mod halts;
+#[cfg(test)]
+mod listed;
+mod peng_robinson;
 mod places;
+#[cfg(test)]
+mod tests;
 
 pub use bisecting::bisect;
 pub use classed::Classed;
 pub use fibres::{OnePhase, Walked};
 pub use flash_places::edge_by;
+pub use peng_robinson::edge;
 pub use places::Classify;
