@@ -6,6 +6,8 @@
 
 mod boundaries;
 #[cfg(test)]
+mod boundary_tests;
+#[cfg(test)]
 mod certificate_tests;
 mod checking;
 mod ends;
