@@ -24,7 +24,7 @@ none n left left' same =
 more : (m n : ℕ) (left left' : Option (List ℕ)) → m ≤ n → TakesAtMost m left left' → TakesAtMost n left left'
 more m n left left' h t = record { bytes = t.bytes; short = (let s = t.short in omega (arith, s, h)); taken = t.taken }
 
-table_limited : (job : PlainJob) (asked : Asked) → base_of job ≡ Some asked → input_limit (Ok job) ≡ table_limit
+pub table_limited : (job : PlainJob) (asked : Asked) → base_of job ≡ Some asked → input_limit (Ok job) ≡ table_limit
 table_limited (PlainTp flash) asked base = refl
 table_limited (PlainCert flash) asked base = refl
 table_limited PlainCheck asked base = absurd cc

@@ -1,5 +1,5 @@
 -- What the work of a job came to.
-use Rattle.std.proofs.Common.{◌≡◌, inl, inr, ℕ, List, Bool, true, ℤ, refl, sym}
+use Rattle.std.proofs.Common.{◌≡◌, inl, inr, ℕ, List, Bool, true, ℤ, refl, sym, subst, ◌+◌}
 use Rattle.std.specs.Prelude.{Ok, Some}
 use Rattle.std.specs.declared.option.Option.{Option}
 use Rattle.case_words.specs.Jobs.{Asked, PlainJob, PlainCheck}
@@ -12,13 +12,15 @@ use Rattle.cert_check.specs.Streams.{AnswersStream, FailsToRead, IsStreamVerdict
 use Rattle.cert_check.proofs.Exports.{accepted_is_good, good_certifies}
 use Rattle.report_text.specs.declared.ends.End.{End}
 use Rattle.report_text.specs.declared.ends.End.TheVariants.{Words, Read, TooLong, Table, Case, Flash, Cert, Checked, Edge, Memory}
-use Rattle.flash_run.specs.Headline.{IsAll, IsAccepted, IsOfAll, Accepts, Certifies}
+use Rattle.io_edge.specs.Reading.{StopsReading, TakesAtMost, TakesExactly}
+use Rattle.io_edge.specs.declared.reading.ReadStop.TheVariants as stop
+use Rattle.flash_run.specs.Headline.{table_limit, IsAll, IsAccepted, IsOfAll, Accepts, Certifies}
 use Rattle.flash_run.specs.Ends.{IsJudged, IsWorked, Judges, ReadsTable, Works, base_of, end_of}
-use Rattle.flash_run.proofs.Takes.{table_at_most}
+use Rattle.flash_run.proofs.Takes.{table_at_most, table_limited}
 
 -- ---- of a table
 -- how a job reads a table
-reads_table : (job : PlainJob) (asked : Asked) → base_of job ≡ Some asked → ReadsTable (Ok job)
+abbrev reads_table : (job : PlainJob) (asked : Asked) → base_of job ≡ Some asked → ReadsTable (Ok job)
 reads_table job asked base = record { plain = job; asked = asked; asks = refl; base = base }
 
 of_all : (job : PlainJob) (bytes : List ℕ) (left left' : Option (List ℕ)) (end : End) → IsAll left left' bytes → Certifies job bytes end → IsOfAll (Ok job) left left' end
@@ -101,6 +103,49 @@ judged_works job asked bytes left left' faults faults' failed' (Words fault) bas
 judged_works job asked bytes left left' faults faults' failed' Read base all same w = absurd w.cause
 judged_works job asked bytes left left' faults faults' failed' TooLong base all same w = absurd w.cause
 judged_works job asked bytes left left' faults faults' failed' (Checked v) base all same w = absurd w.cause
+
+-- the table couldn't be read, has too many bytes, or found no memory
+pub failed_works : (job : PlainJob) (asked : Asked) (left left' : Option (List ℕ)) (faults faults' : ℕ) (failed' : Bool) → base_of job ≡ Some asked
+    → StopsReading stop.Failed table_limit left left' faults faults' → failed' ≡ true → Works (Ok job) left left' faults faults' failed' Read
+failed_works job asked left left' faults faults' failed' base (most, fault) failed = record {
+  headline = tt;
+  accepted = tt;
+  returned = tt;
+  takes = subst (λ (n : ℕ). TakesAtMost n left left') (sym (table_limited job asked base)) most;
+  reads = fault;
+  last_take = λ e. failed;
+  last_fault = λ e. failed;
+  cause = inl (reads_table job asked base);
+  memory = λ e. absurd cc;
+}
+
+pub long_table_works : (job : PlainJob) (asked : Asked) (left left' : Option (List ℕ)) (faults faults' : ℕ) (failed' : Bool) → base_of job ≡ Some asked
+    → StopsReading stop.TooLong table_limit left left' faults faults' → Works (Ok job) left left' faults faults' failed' TooLong
+long_table_works job asked left left' faults faults' failed' base (count, same) = record {
+  headline = tt;
+  accepted = tt;
+  returned = tt;
+  takes = subst (λ (n : ℕ). TakesExactly (n + 1) left left') (sym (table_limited job asked base)) count;
+  reads = same;
+  last_take = λ e. absurd cc;
+  last_fault = λ e. absurd (e same);
+  cause = inl (reads_table job asked base);
+  memory = λ e. absurd cc;
+}
+
+pub unread_works : (job : PlainJob) (asked : Asked) (left left' : Option (List ℕ)) (faults faults' : ℕ) (failed' : Bool) → base_of job ≡ Some asked
+    → StopsReading stop.Memory table_limit left left' faults faults' → Works (Ok job) left left' faults faults' failed' Memory
+unread_works job asked left left' faults faults' failed' base (most, same) = record {
+  headline = tt;
+  accepted = tt;
+  returned = tt;
+  takes = subst (λ (n : ℕ). TakesAtMost (n + 1) left left') (sym (table_limited job asked base)) most;
+  reads = inl same;
+  last_take = λ e. absurd cc;
+  last_fault = λ e. absurd (e same);
+  cause = tt;
+  memory = λ e. reads_table job asked base;
+}
 
 -- ---- of a certificate
 never_past : (within : Verdict) (u gap : ℤ) → verdict.Accepted u gap ≡ past_limit within → ⊥
