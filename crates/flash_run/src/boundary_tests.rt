@@ -78,12 +78,7 @@ const SEARCHED: [(&str, &str, u8, &str); 12] = [
         4,
         "refused case MRange 1 at=1200.000\n",
     ),
-    (
-        "bubble-p T=300 lo=5 hi=6",
-        "",
-        2,
-        "refused words Range 3\n",
-    ),
+    ("bubble-p T=300 lo=5 hi=6", "", 2, "refused words Range 3\n"),
 ];
 
 #[test]

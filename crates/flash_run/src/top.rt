@@ -78,9 +78,7 @@ fn work<S: Source>(alloc: Global, words: &Vec<Word>, source: &mut S) -> End
         (S.faults source.old) (S.faults source.new) (S.failed source.new) result }
 {
     match read_words(words) {
-        Ok(Job::Tp(job)) => {
-            table_job(alloc, Wanted::Flash(Printed::Report, &job), source)
-        }
+        Ok(Job::Tp(job)) => { table_job(alloc, Wanted::Flash(Printed::Report, &job), source) }
         Ok(Job::Cert(job)) => {
             table_job(alloc, Wanted::Flash(Printed::Certificate, &job), source)
         }

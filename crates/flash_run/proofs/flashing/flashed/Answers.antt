@@ -30,7 +30,7 @@ returns-in-Certificate c bytes case_is =
     let own : AreNamed p.case = subst AreNamed (sym c.in-Ok.ensures.ok) names in
     let sized : IsSized (head_of p a) = subst IsSized c.head_of.ensures c.head_is_sized.ensures in
     let asks : flash_for c.args.printed (asked_by job) ≡ PlainCert (asked_by job) =
-        ap (λ (printed : Printed). flash_for printed (asked_by job)) c.in-Certificate.is in
+    ap (λ (printed : Printed). flash_for printed (asked_by job)) c.in-Certificate.is in
     record {
       certified = (
         asked_by job,

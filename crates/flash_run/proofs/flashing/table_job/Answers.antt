@@ -16,16 +16,16 @@ pub returns-in-Err-Failed : goal.returns-in-Err-Failed
 returns-in-Err-Failed g c =
     failed_works (job_for c.args.wanted) (named_by c.args.wanted) (g.S.Source.left c.args.source.now) (g.S.Source.left c.read_all.new.source)
     (g.S.Source.faults c.args.source.now) (g.S.Source.faults c.read_all.new.source) (g.S.Source.failed c.read_all.new.source)
-    (names_its_case c.args.wanted) c.in-Err-Failed.ensures.err (search rules)
+    (names_its_case c.args.wanted) (rw c.in-Err-Failed.field-0-is at c.in-Err-Failed.ensures.err) (search rules)
 
 pub returns-in-Err-TooLong : goal.returns-in-Err-TooLong
 returns-in-Err-TooLong g c =
     long_table_works (job_for c.args.wanted) (named_by c.args.wanted) (g.S.Source.left c.args.source.now) (g.S.Source.left c.read_all.new.source)
     (g.S.Source.faults c.args.source.now) (g.S.Source.faults c.read_all.new.source) (g.S.Source.failed c.read_all.new.source)
-    (names_its_case c.args.wanted) c.in-Err-TooLong.ensures.err
+    (names_its_case c.args.wanted) (rw c.in-Err-TooLong.field-0-is at c.in-Err-TooLong.ensures.err)
 
 pub returns-in-Err-Memory : goal.returns-in-Err-Memory
 returns-in-Err-Memory g c =
     unread_works (job_for c.args.wanted) (named_by c.args.wanted) (g.S.Source.left c.args.source.now) (g.S.Source.left c.read_all.new.source)
     (g.S.Source.faults c.args.source.now) (g.S.Source.faults c.read_all.new.source) (g.S.Source.failed c.read_all.new.source)
-    (names_its_case c.args.wanted) c.in-Err-Memory.ensures.err
+    (names_its_case c.args.wanted) (rw c.in-Err-Memory.field-0-is at c.in-Err-Memory.ensures.err)
