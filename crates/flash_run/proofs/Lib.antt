@@ -1,3 +1,4 @@
 pub mod Takes
 pub mod LiveNames
+pub mod Wanting
 pub mod Working

@@ -1,8 +1,8 @@
 -- What the work of a job came to.
-use Rattle.std.proofs.Common.{◌≡◌, inl, inr, ℕ, List, Bool, true, ℤ, refl, sym, ap}
+use Rattle.std.proofs.Common.{◌≡◌, inl, inr, ℕ, List, Bool, true, ℤ, refl, sym, subst, ◌+◌}
 use Rattle.std.specs.Prelude.{Ok, Some}
 use Rattle.std.specs.declared.option.Option.{Option}
-use Rattle.case_words.specs.Jobs.{Asked, PlainCheck}
+use Rattle.case_words.specs.Jobs.{Asked, PlainJob, PlainCheck}
 use Rattle.cert_lines.specs.declared.faults.CertFault.TheVariants as fault
 use Rattle.cert_format.specs.declared.heads.Head.{Head}
 use Rattle.cert_format.specs.declared.verdicts.Verdict.{Verdict}
@@ -12,16 +12,28 @@ use Rattle.cert_check.specs.Streams.{AnswersStream, FailsToRead, IsStreamVerdict
 use Rattle.cert_check.proofs.Exports.{accepted_is_good, good_certifies}
 use Rattle.report_text.specs.declared.ends.End.{End}
 use Rattle.report_text.specs.declared.ends.End.TheVariants.{Words, Read, TooLong, Table, Case, Flash, Cert, Checked, Edge, Memory}
-use Rattle.flash_run.specs.declared.wanted.Wanted.{Wanted}
-use Rattle.flash_run.specs.Headline.{IsAll, IsAccepted, Accepts, Returns, Certifies}
-use Rattle.flash_run.specs.Ends.{Judges, Works, end_of, job_for}
-use Rattle.flash_run.proofs.Takes.{flash_at_most}
+use Rattle.io_edge.specs.Reading.{StopsReading, TakesAtMost, TakesExactly}
+use Rattle.io_edge.specs.declared.reading.ReadStop.TheVariants as stop
+use Rattle.flash_run.specs.Headline.{table_limit, IsAll, IsAccepted, IsOfAll, Accepts, Certifies}
+use Rattle.flash_run.specs.Ends.{IsJudged, IsWorked, Judges, ReadsTable, Works, base_of, end_of}
+use Rattle.flash_run.proofs.Takes.{table_at_most, table_limited}
 
--- ---- of a flash
-pub judged_works : (wanted : Wanted) (asked : Asked) (bytes : List ℕ) (left left' : Option (List ℕ)) (faults : ℕ) (faults' : ℕ) (failed' : Bool) (end : End)
-    → IsAll left left' bytes → faults' ≡ faults → Certifies asked bytes end → Returns end → Judges wanted asked bytes end
-    → Works (Ok (job_for wanted asked)) left left' faults faults' failed' end
-judged_works wanted asked bytes left left' faults faults' failed' (Table fault) all same c r j = record {
+-- ---- of a table
+-- how a job reads a table
+abbrev reads_table : (job : PlainJob) (asked : Asked) → base_of job ≡ Some asked → ReadsTable (Ok job)
+reads_table job asked base = record { plain = job; asked = asked; asks = refl; base = base }
+
+of_all : (job : PlainJob) (bytes : List ℕ) (left left' : Option (List ℕ)) (end : End) → IsAll left left' bytes → Certifies job bytes end → IsOfAll (Ok job) left left' end
+of_all job bytes left left' end all certified = record { plain = job; asks = refl; bytes = bytes; all = all; certified = certified }
+
+judged : (job : PlainJob) (asked : Asked) (bytes : List ℕ) (left left' : Option (List ℕ)) (end : End) → base_of job ≡ Some asked → IsAll left left' bytes
+    → Judges job asked bytes end → IsJudged (Ok job) left left' end
+judged job asked bytes left left' end base all j = record { reads = reads_table job asked base; bytes = bytes; all = all; judged = j }
+
+pub judged_works : (job : PlainJob) (asked : Asked) (bytes : List ℕ) (left left' : Option (List ℕ)) (faults : ℕ) (faults' : ℕ) (failed' : Bool) (end : End)
+    → base_of job ≡ Some asked → IsAll left left' bytes → faults' ≡ faults → IsWorked job asked bytes end
+    → Works (Ok job) left left' faults faults' failed' end
+judged_works job asked bytes left left' faults faults' failed' (Table fault) base all same w = record {
   headline = tt;
   accepted = tt;
   returned = tt;
@@ -29,10 +41,10 @@ judged_works wanted asked bytes left left' faults faults' failed' (Table fault) 
   reads = same;
   last_take = λ e. absurd cc;
   last_fault = λ e. absurd (e same);
-  cause = record { wanted = wanted; asked = asked; asks = refl; bytes = bytes; all = all; judged = j };
+  cause = judged job asked bytes left left' (Table fault) base all w.cause;
   memory = λ e. absurd cc;
 }
-judged_works wanted asked bytes left left' faults faults' failed' (Case fault) all same c r j = record {
+judged_works job asked bytes left left' faults faults' failed' (Case fault) base all same w = record {
   headline = tt;
   accepted = tt;
   returned = tt;
@@ -40,47 +52,100 @@ judged_works wanted asked bytes left left' faults faults' failed' (Case fault) a
   reads = same;
   last_take = λ e. absurd cc;
   last_fault = λ e. absurd (e same);
-  cause = record { wanted = wanted; asked = asked; asks = refl; bytes = bytes; all = all; judged = j };
+  cause = judged job asked bytes left left' (Case fault) base all w.cause;
   memory = λ e. absurd cc;
 }
-judged_works wanted asked bytes left left' faults faults' failed' (Flash params picked tol answer) all same c r j = record {
-  headline = (asked, bytes, ap (λ (w : Wanted). Ok (job_for w asked)) j.0, all, c);
+judged_works job asked bytes left left' faults faults' failed' (Flash params picked tol answer) base all same w = record {
+  headline = of_all job bytes left left' (Flash params picked tol answer) all w.certified;
   accepted = tt;
   returned = tt;
   takes = (bytes, all);
   reads = same;
   last_take = λ e. absurd cc;
   last_fault = λ e. absurd (e same);
-  cause = record { wanted = wanted; asked = asked; asks = refl; bytes = bytes; all = all; judged = j };
+  cause = judged job asked bytes left left' (Flash params picked tol answer) base all w.cause;
   memory = λ e. absurd cc;
 }
-judged_works wanted asked bytes left left' faults faults' failed' (Cert params answer) all same c r j = record {
-  headline = (asked, bytes, c.0, ap (λ (w : Wanted). Ok (job_for w asked)) j.0, all, c.1);
+judged_works job asked bytes left left' faults faults' failed' (Cert params answer) base all same w = record {
+  headline = of_all job bytes left left' (Cert params answer) all w.certified;
   accepted = tt;
-  returned = r;
+  returned = w.returned;
   takes = (bytes, all);
   reads = same;
   last_take = λ e. absurd cc;
   last_fault = λ e. absurd (e same);
-  cause = record { wanted = wanted; asked = asked; asks = refl; bytes = bytes; all = all; judged = j };
+  cause = judged job asked bytes left left' (Cert params answer) base all w.cause;
   memory = λ e. absurd cc;
 }
-judged_works wanted asked bytes left left' faults faults' failed' Memory all same c r j = record {
+judged_works job asked bytes left left' faults faults' failed' (Edge by answer) base all same w = record {
+  headline = of_all job bytes left left' (Edge by answer) all w.certified;
+  accepted = tt;
+  returned = tt;
+  takes = (bytes, all);
+  reads = same;
+  last_take = λ e. absurd cc;
+  last_fault = λ e. absurd (e same);
+  cause = judged job asked bytes left left' (Edge by answer) base all w.cause;
+  memory = λ e. absurd cc;
+}
+judged_works job asked bytes left left' faults faults' failed' Memory base all same w = record {
   headline = tt;
   accepted = tt;
   returned = tt;
-  takes = flash_at_most wanted asked left left' bytes all;
+  takes = table_at_most job asked left left' bytes base all;
   reads = inl same;
   last_take = λ e. absurd cc;
   last_fault = λ e. absurd (e same);
   cause = tt;
-  memory = λ e. record { wanted = wanted; asked = asked; is = refl };
+  memory = λ e. reads_table job asked base;
 }
-judged_works wanted asked bytes left left' faults faults' failed' (Words fault) all same c r j = absurd j
-judged_works wanted asked bytes left left' faults faults' failed' Read all same c r j = absurd j
-judged_works wanted asked bytes left left' faults faults' failed' TooLong all same c r j = absurd j
-judged_works wanted asked bytes left left' faults faults' failed' (Checked v) all same c r j = absurd j
-judged_works wanted asked bytes left left' faults faults' failed' (Edge by answer) all same c r j = absurd j
+judged_works job asked bytes left left' faults faults' failed' (Words fault) base all same w = absurd w.cause
+judged_works job asked bytes left left' faults faults' failed' Read base all same w = absurd w.cause
+judged_works job asked bytes left left' faults faults' failed' TooLong base all same w = absurd w.cause
+judged_works job asked bytes left left' faults faults' failed' (Checked v) base all same w = absurd w.cause
+
+-- the table couldn't be read, has too many bytes, or found no memory
+pub failed_works : (job : PlainJob) (asked : Asked) (left left' : Option (List ℕ)) (faults faults' : ℕ) (failed' : Bool) → base_of job ≡ Some asked
+    → StopsReading stop.Failed table_limit left left' faults faults' → failed' ≡ true → Works (Ok job) left left' faults faults' failed' Read
+failed_works job asked left left' faults faults' failed' base (most, fault) failed = record {
+  headline = tt;
+  accepted = tt;
+  returned = tt;
+  takes = subst (λ (n : ℕ). TakesAtMost n left left') (sym (table_limited job asked base)) most;
+  reads = fault;
+  last_take = λ e. failed;
+  last_fault = λ e. failed;
+  cause = inl (reads_table job asked base);
+  memory = λ e. absurd cc;
+}
+
+pub long_table_works : (job : PlainJob) (asked : Asked) (left left' : Option (List ℕ)) (faults faults' : ℕ) (failed' : Bool) → base_of job ≡ Some asked
+    → StopsReading stop.TooLong table_limit left left' faults faults' → Works (Ok job) left left' faults faults' failed' TooLong
+long_table_works job asked left left' faults faults' failed' base (count, same) = record {
+  headline = tt;
+  accepted = tt;
+  returned = tt;
+  takes = subst (λ (n : ℕ). TakesExactly (n + 1) left left') (sym (table_limited job asked base)) count;
+  reads = same;
+  last_take = λ e. absurd cc;
+  last_fault = λ e. absurd (e same);
+  cause = inl (reads_table job asked base);
+  memory = λ e. absurd cc;
+}
+
+pub unread_works : (job : PlainJob) (asked : Asked) (left left' : Option (List ℕ)) (faults faults' : ℕ) (failed' : Bool) → base_of job ≡ Some asked
+    → StopsReading stop.Memory table_limit left left' faults faults' → Works (Ok job) left left' faults faults' failed' Memory
+unread_works job asked left left' faults faults' failed' base (most, same) = record {
+  headline = tt;
+  accepted = tt;
+  returned = tt;
+  takes = subst (λ (n : ℕ). TakesAtMost (n + 1) left left') (sym (table_limited job asked base)) most;
+  reads = inl same;
+  last_take = λ e. absurd cc;
+  last_fault = λ e. absurd (e same);
+  cause = tt;
+  memory = λ e. reads_table job asked base;
+}
 
 -- ---- of a certificate
 never_past : (within : Verdict) (u gap : ℤ) → verdict.Accepted u gap ≡ past_limit within → ⊥

@@ -1,11 +1,15 @@
 -- What an end says of its cause and of the source.
-use Rattle.std.specs.Prelude.{◌≡◌, ◌≢◌, ⊤, ℕ, ℤ, Bool, true, Result, ◌+◌, ◌⊎◌, List, Ok, Err, Some}
+use Rattle.std.specs.Prelude.{◌≡◌, ◌≢◌, ⊤, ℕ, ℤ, Bool, true, Result, ◌+◌, ◌⊎◌, List, Ok, Err, Some, None}
 use Rattle.std.specs.declared.option.Option.{Option}
 use Rattle.case_types.specs.declared.cases.ParamFault.{ParamFault}
 use Rattle.case_types.specs.Arithmetic.Faults.{fault_of}
 use Rattle.case_types.specs.Arithmetic.Numbers.{numbers_of}
 use Rattle.case_types.specs.declared.answers.Answer.{Answer}
+use Rattle.case_types.specs.declared.edges.EdgeAnswer.{EdgeAnswer}
 use Rattle.case_words.specs.Jobs.{Asked, PlainJob, PlainTp, PlainCert, PlainEdge, PlainCheck}
+use Rattle.case_words.specs.Views.{asked_by, edge_asked_by}
+use Rattle.case_words.specs.declared.boundaries.By.{By}
+use Rattle.case_words.specs.declared.boundaries.EdgeWords.{EdgeWords}
 use Rattle.case_words.specs.declared.faults.WordFault.{WordFault}
 use Rattle.component_table.specs.declared.cases.CaseFault.{CaseFault}
 use Rattle.component_table.specs.declared.cases.CaseFault.TheVariants.{Param}
@@ -13,6 +17,9 @@ use Rattle.component_table.specs.declared.cases.Picked.{Picked}
 use Rattle.component_table.specs.CsvText.{records_of}
 use Rattle.component_table.specs.Picking.{Refuses}
 use Rattle.component_table.specs.Tables.{Held, table_of}
+use Rattle.edge_flash.specs.Ends.{SaysAt}
+use Rattle.edge_flash.specs.PengRobinson.{IsPrWalk}
+use Rattle.edge_flash.specs.Places.{boundary, Bisected}
 use Rattle.energy_surface.specs.Lawful.{IsLawful}
 use Rattle.pr_surface.specs.PengRobinson.{surface_of}
 use Rattle.pr_params.specs.declared.numbers.Params.{Params}
@@ -25,9 +32,7 @@ use Rattle.io_edge.specs.Causes.{CountsFault}
 use Rattle.io_edge.specs.Reading.{TakesAtMost, TakesExactly}
 use Rattle.report_text.specs.declared.ends.End.{End}
 use Rattle.report_text.specs.declared.ends.End.TheVariants.{Words, Read, TooLong, Table, Case, Flash, Cert, Checked, Edge, Memory}
-use Rattle.flash_run.specs.declared.wanted.Wanted.{Wanted}
-use Rattle.flash_run.specs.declared.wanted.Wanted.TheVariants.{Report, Certificate}
-use Rattle.flash_run.specs.Headline.{table_limit, IsAll, IsCase, Answers, Accepts, Returns}
+use Rattle.flash_run.specs.Headline.{table_limit, IsAll, IsCase, Answers, Accepts, Certifies, Returns}
 
 -- ---- the source
 -- one fault of the source was counted at Read, and none where words, table, case or certificate were judged
@@ -89,42 +94,64 @@ pub record IsRefusedRange (asked : Asked) (bytes : List ℕ) (fault : CaseFault)
   pub is : fault ≡ Param range
   pub refused : fault_of picked.case ≡ Some range
 
--- what the words ask for where this is wanted of a flash
-abbrev pub job_for : Wanted → Asked → PlainJob
-job_for Report asked = PlainTp asked
-job_for Certificate asked = PlainCert asked
-
 -- the list of work of an answer is lawful
 abbrev pub IsLawfulFor : Asked → Params → Answer → Type 0
 IsLawfulFor asked params answer = IsLawful (surface_of (numbers_of params.case)) params.case asked.tol asked.budget answer
 
--- what comes of what is asked and of the bytes of a table; want of memory has no cause here
-abbrev pub Judges : Wanted → Asked → List ℕ → End → Type 0
-Judges wanted asked bytes (Words fault) = ⊥
-Judges wanted asked bytes Read = ⊥
-Judges wanted asked bytes TooLong = ⊥
-Judges wanted asked bytes (Table fault) = table_of (records_of bytes) ≡ Err fault
-Judges wanted asked bytes (Case fault) = IsRefusedName asked bytes fault ⊎ IsRefusedRange asked bytes fault
-Judges wanted asked bytes (Flash params picked tol answer) = (wanted ≡ Report) × IsLawfulFor asked params answer
-Judges wanted asked bytes (Cert params answer) = (wanted ≡ Certificate) × IsLawfulFor asked params answer
-Judges wanted asked bytes (Checked verdict) = ⊥
-Judges wanted asked bytes (Edge by answer) = ⊥
-Judges wanted asked bytes Memory = ⊤
+-- the answer of a search is that of its definition, each place that it asked being said of by a flash and by a walk over one phase
+pub record IsSearched (words : EdgeWords) (bytes : List ℕ) (by : By) (answer : EdgeAnswer) : Type 0 where
+  pub picked : Picked
+  pub case_is : IsCase (asked_by words.base) bytes picked
+  pub by_is : by ≡ words.by
+  pub searched : Bisected (SaysAt (λ c. surface_of (numbers_of c)) IsPrWalk picked.case words) (boundary words.side words.lo words.hi words.width) answer
 
--- the job is a flash
-pub record Flashes (job : Result PlainJob WordFault) : Type 0 where
-  pub wanted : Wanted
+-- the job is one flash
+abbrev pub IsFlash : PlainJob → Type 0
+IsFlash (PlainTp asked) = ⊤
+IsFlash (PlainCert asked) = ⊤
+IsFlash PlainCheck = ⊥
+IsFlash (PlainEdge asked) = ⊥
+
+-- what comes of a job, whose flash is asked of this, and of the bytes of a table; a search tells a range that is broken with its place;
+-- want of memory has no cause here
+abbrev pub Judges : PlainJob → Asked → List ℕ → End → Type 0
+Judges job asked bytes (Words fault) = ⊥
+Judges job asked bytes Read = ⊥
+Judges job asked bytes TooLong = ⊥
+Judges job asked bytes (Table fault) = table_of (records_of bytes) ≡ Err fault
+Judges job asked bytes (Case fault) = IsRefusedName asked bytes fault ⊎ (IsFlash job × IsRefusedRange asked bytes fault)
+Judges job asked bytes (Flash params picked tol answer) = (job ≡ PlainTp asked) × IsLawfulFor asked params answer
+Judges job asked bytes (Cert params answer) = (job ≡ PlainCert asked) × IsLawfulFor asked params answer
+Judges job asked bytes (Checked verdict) = ⊥
+Judges job asked bytes (Edge by answer) = (words : EdgeWords) × (job ≡ PlainEdge (edge_asked_by words)) × IsSearched words bytes by answer
+Judges job asked bytes Memory = ⊤
+
+-- the end of a job and of the bytes of a table, with what is promised of it
+pub record IsWorked (job : PlainJob) (asked : Asked) (bytes : List ℕ) (end : End) : Type 0 where
+  pub certified : Certifies job bytes end
+  pub returned : Returns end
+  pub cause : Judges job asked bytes end
+
+-- what the flash of a job is asked of, where it reads a table: of a search, that at its lower end
+abbrev pub base_of : PlainJob → Option Asked
+base_of (PlainTp asked) = Some asked
+base_of (PlainCert asked) = Some asked
+base_of PlainCheck = None
+base_of (PlainEdge asked) = Some asked.base
+
+-- the job reads a table
+pub record ReadsTable (job : Result PlainJob WordFault) : Type 0 where
+  pub plain : PlainJob
   pub asked : Asked
-  pub is : job ≡ Ok (job_for wanted asked)
+  pub asks : job ≡ Ok plain
+  pub base : base_of plain ≡ Some asked
 
--- what comes of a flash and of all bytes of the source
+-- what comes of such a job and of all bytes of the source
 pub record IsJudged (job : Result PlainJob WordFault) (left left' : Option (List ℕ)) (end : End) : Type 0 where
-  pub wanted : Wanted
-  pub asked : Asked
-  pub asks : job ≡ Ok (job_for wanted asked)
+  pub reads : ReadsTable job
   pub bytes : List ℕ
   pub all : IsAll left left' bytes
-  pub judged : Judges wanted asked bytes end
+  pub judged : Judges reads.plain reads.asked bytes end
 
 -- the verdict on the certificate that the source has left, where it tells its bytes
 pub record IsChecked (job : Result PlainJob WordFault) (left : Option (List ℕ)) (verdict : Verdict) : Type 0 where
@@ -141,18 +168,18 @@ end_of verdict = Checked verdict
 -- why a run comes to this end
 abbrev pub Comes : Result PlainJob WordFault → Option (List ℕ) → Option (List ℕ) → End → Type 0
 Comes job left left' (Words fault) = job ≡ Err fault
-Comes job left left' Read = Flashes job ⊎ (job ≡ Ok PlainCheck)
-Comes job left left' TooLong = Flashes job ⊎ IsChecked job left (Refused LongText)
+Comes job left left' Read = ReadsTable job ⊎ (job ≡ Ok PlainCheck)
+Comes job left left' TooLong = ReadsTable job ⊎ IsChecked job left (Refused LongText)
 Comes job left left' (Table fault) = IsJudged job left left' (Table fault)
 Comes job left left' (Case fault) = IsJudged job left left' (Case fault)
 Comes job left left' (Flash params picked tol answer) = IsJudged job left left' (Flash params picked tol answer)
 Comes job left left' (Cert params answer) = IsJudged job left left' (Cert params answer)
 Comes job left left' (Checked verdict) = IsChecked job left verdict × (end_of verdict ≡ Checked verdict)
-Comes job left left' (Edge by answer) = ⊥
+Comes job left left' (Edge by answer) = IsJudged job left left' (Edge by answer)
 Comes job left left' Memory = ⊤
 
 -- ---- the work
--- what the work of a job came to; memory is wanting in a flash alone, as a certificate is judged without any
+-- what the work of a job came to; memory is wanting only where a table is read, as a certificate is judged without any
 pub record Works (job : Result PlainJob WordFault) (left left' : Option (List ℕ)) (faults faults' : ℕ) (failed' : Bool) (end : End) : Type 0 where
   pub headline : Answers job left left' end
   pub accepted : Accepts left end
@@ -162,4 +189,4 @@ pub record Works (job : Result PlainJob WordFault) (left left' : Option (List �
   pub last_take : end ≡ Read → failed' ≡ true
   pub last_fault : faults' ≢ faults → failed' ≡ true
   pub cause : Comes job left left' end
-  pub memory : end ≡ Memory → Flashes job
+  pub memory : end ≡ Memory → ReadsTable job

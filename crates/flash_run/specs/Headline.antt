@@ -1,13 +1,17 @@
--- The headline of a run: of every flash, that its answer is certified for what the words ask and the whole table has, and of every
--- certificate that is accepted, that it is certified.
+-- The headline of a run: of every flash and every search, that its answer is certified for what the words ask and the whole table has,
+-- and of every certificate that is accepted, that it is certified.
 use Rattle.std.specs.Prelude.{◌≡◌, ⊤, ℕ, ◌*◌, ◌^◌, ◌≤◌, List, length, ℤ, pos, ◌≤ℤ◌, Result, Ok, Some}
 use Rattle.std.specs.declared.option.Option.{Option}
 use Rattle.case_types.specs.declared.answers.Answer.{Answer}
 use Rattle.case_types.specs.declared.answers.Outcome.TheVariants.{Closed}
+use Rattle.case_types.specs.declared.edges.EdgeAnswer.{EdgeAnswer}
 use Rattle.case_types.specs.Energy.Divisions.{Certified, division_of}
 use Rattle.case_types.specs.Energy.Printed.{enclosures_in}
 use Rattle.case_types.specs.Arithmetic.Numbers.{enclosures_of}
-use Rattle.case_words.specs.Jobs.{Asked, PlainJob, PlainTp, PlainCert}
+use Rattle.case_words.specs.Jobs.{Asked, PlainJob, PlainTp, PlainCert, PlainEdge}
+use Rattle.case_words.specs.Views.{asked_by, edge_asked_by}
+use Rattle.case_words.specs.declared.boundaries.By.{By}
+use Rattle.case_words.specs.declared.boundaries.EdgeWords.{EdgeWords}
 use Rattle.case_words.specs.declared.faults.WordFault.{WordFault}
 use Rattle.component_table.specs.declared.cases.Picked.{Picked}
 use Rattle.component_table.specs.CsvText.{records_of}
@@ -21,8 +25,10 @@ use Rattle.cert_format.specs.declared.verdicts.Verdict.TheVariants.{Accepted}
 use Rattle.cert_format.specs.Writing.{certificate_text}
 use Rattle.cert_check.specs.Certificates.{IsGoodText}
 use Rattle.cert_check.specs.Streams.{IsStreamVerdict}
+use Rattle.edge_flash.specs.Ends.{SayKinds}
+use Rattle.edge_flash.specs.Places.{boundary, EnclosesIfBracket}
 use Rattle.report_text.specs.declared.ends.End.{End}
-use Rattle.report_text.specs.declared.ends.End.TheVariants.{Flash, Cert, Checked}
+use Rattle.report_text.specs.declared.ends.End.TheVariants.{Flash, Cert, Checked, Edge}
 
 -- the most bytes of a table
 abbrev pub table_limit : ℕ
@@ -50,18 +56,35 @@ pub record IsCertified (asked : Asked) (bytes : List ℕ) (p : Params) (picked :
   pub certified : Certified p.case (enclosures_in p.case.n p.two p.e p.t p.q) (division_of a.split) a.u a.gap
   pub near : a.outcome ≡ Closed → a.gap ≤ℤ pos (3 * tol * 2 ^ 18)
 
--- what a flash says of what is asked and of the bytes of a table, whether its report is printed or its certificate
-abbrev pub Certifies : Asked → List ℕ → End → Type 0
-Certifies asked bytes (Flash params picked tol answer) = IsCertified asked bytes params picked tol answer
-Certifies asked bytes (Cert params answer) = (picked : Picked) × IsCertified asked bytes params picked asked.tol answer
-Certifies asked bytes _ = ⊤
+-- the ends that are printed are of their kinds for the case of what is asked in the table of these bytes, each at its place and with its
+-- gap; a bracket has one divided end and one whole, within the ends that are asked and at most the width apart
+pub record IsBounded (words : EdgeWords) (bytes : List ℕ) (by : By) (answer : EdgeAnswer) : Type 0 where
+  pub picked : Picked
+  pub case_is : IsCase (asked_by words.base) bytes picked
+  pub by_is : by ≡ words.by
+  pub kinds : SayKinds picked.case words answer
+  pub encloses : EnclosesIfBracket (boundary words.side words.lo words.hi words.width) answer
 
--- every flash is a certified one of what the words ask and of all bytes of the source
+-- what is printed of a job and of the bytes of a table is certified
+abbrev pub Certifies : PlainJob → List ℕ → End → Type 0
+Certifies job bytes (Flash params picked tol answer) = (asked : Asked) × (job ≡ PlainTp asked) × IsCertified asked bytes params picked tol answer
+Certifies job bytes (Cert params answer) = (asked : Asked) × (picked : Picked) × (job ≡ PlainCert asked) × IsCertified asked bytes params picked asked.tol answer
+Certifies job bytes (Edge by answer) = (words : EdgeWords) × (job ≡ PlainEdge (edge_asked_by words)) × IsBounded words bytes by answer
+Certifies job bytes _ = ⊤
+
+-- it is certified for what the words ask and for all bytes of the source
+pub record IsOfAll (job : Result PlainJob WordFault) (left left' : Option (List ℕ)) (end : End) : Type 0 where
+  pub plain : PlainJob
+  pub asks : job ≡ Ok plain
+  pub bytes : List ℕ
+  pub all : IsAll left left' bytes
+  pub certified : Certifies plain bytes end
+
+-- every flash and every search is such
 abbrev pub Answers : Result PlainJob WordFault → Option (List ℕ) → Option (List ℕ) → End → Type 0
-Answers job left left' (Flash params picked tol answer) = (asked : Asked) × (bytes : List ℕ)
-    × (job ≡ Ok (PlainTp asked)) × IsAll left left' bytes × IsCertified asked bytes params picked tol answer
-Answers job left left' (Cert params answer) = (asked : Asked) × (bytes : List ℕ) × (picked : Picked)
-    × (job ≡ Ok (PlainCert asked)) × IsAll left left' bytes × IsCertified asked bytes params picked asked.tol answer
+Answers job left left' (Flash params picked tol answer) = IsOfAll job left left' (Flash params picked tol answer)
+Answers job left left' (Cert params answer) = IsOfAll job left left' (Cert params answer)
+Answers job left left' (Edge by answer) = IsOfAll job left left' (Edge by answer)
 Answers job left left' _ = ⊤
 
 -- these bytes are the text of a good certificate with this energy and this gap, and its split is certified with them

@@ -1,2 +1,3 @@
+pub mod Wanting
 pub mod Headline
 pub mod Ends

@@ -11,8 +11,8 @@ ghost use Rattle.flash_run.specs.Headline.{Accepts, Answers, Returns};
 
 use crate::checking::check_job;
 use crate::ends::RunEnd;
-use crate::flashing::flash_job;
-use crate::wanted::Wanted;
+use crate::flashing::table_job;
+use crate::wanted::{Printed, Wanted};
 use case_words::{Job, Word, read_words};
 use io_edge::{Sink, Source, write_all};
 use report_text::{End, report};
@@ -20,7 +20,7 @@ use std::alloc::Global;
 
 /// The whole program: reads the words and the input, works, and writes what it came to.
 ///
-/// The order of a flash is: words, reading, a table that is too long, its form, names, parameters, the work, writing; that of a check: words, the certificate as it
+/// The order of a flash or a search is: words, reading, a table that is too long, its form, names, parameters, the work, writing; that of a check: words, the certificate as it
 /// is read, writing. Nothing is taken after a take that failed, nor put after a put that failed, and the text is whole before the first byte of it is put.
 pub fn run<S: Source, K: Sink>(
     alloc: Global,
@@ -28,7 +28,8 @@ pub fn run<S: Source, K: Sink>(
     source: &mut S,
     sink: &mut K,
 ) -> RunEnd
-    // Every flash is certified, for the words and all bytes of the input, and so is every certificate that is accepted.
+    // Every flash and every end of a search is certified, for the words and all bytes of the input, and so is every certificate that is
+    // accepted.
     ensures headline { Answers (job_of words.now.items) (S.left source.old) (S.left source.new) result.end }
     ensures accepted { Accepts (S.left source.old) result.end }
     ensures returned { Returns result.end }
@@ -54,7 +55,7 @@ pub fn run<S: Source, K: Sink>(
     ensures last_take { result.end ≡ End.Read → S.failed source.new ≡ true }
     ensures last_fault { S.faults source.new ≢ S.faults source.old → S.failed source.new ≡ true }
 
-    // Why this is the end: of words, table and case the first fault, or else the flash with its lawful list of work; of a certificate its verdict.
+    // Why this is the end: of words, table and case the first fault, or else the flash with its lawful list of work, or the search with what each of its places is; of a certificate its verdict.
     ensures cause { Comes (job_of words.now.items) (S.left source.old) (S.left source.new) result.end }
 {
     let end = work(alloc, words, source);
@@ -77,11 +78,12 @@ fn work<S: Source>(alloc: Global, words: &Vec<Word>, source: &mut S) -> End
         (S.faults source.old) (S.faults source.new) (S.failed source.new) result }
 {
     match read_words(words) {
-        Ok(Job::Tp(job)) => flash_job(alloc, Wanted::Report, &job, source),
-        Ok(Job::Cert(job)) => flash_job(alloc, Wanted::Certificate, &job, source),
+        Ok(Job::Tp(job)) => { table_job(alloc, Wanted::Flash(Printed::Report, &job), source) }
+        Ok(Job::Cert(job)) => {
+            table_job(alloc, Wanted::Flash(Printed::Certificate, &job), source)
+        }
         Ok(Job::Check) => check_job(source),
-        // No command asks for a search yet.
-        Ok(Job::Edge(_)) => unreachable!(),
+        Ok(Job::Edge(job)) => table_job(alloc, Wanted::Boundary(&job), source),
         Err(fault) => End::Words(fault),
     }
 }
